@@ -1,0 +1,92 @@
+-- What a log is read as stays within bounds.
+use Prim.Native.Nat.{ℕ, zero, suc, _+_, _-_, _≤_, _<_}
+use native.Mathlib.Omega.{arith}
+use mathlib.Core.Path.{_≡_, refl, sym, ap, _∙_}
+use mathlib.Core.Bool.{Bool, true, false}
+use mathlib.Core.List.{List, [], _∷_, reverse}
+use lib.ListN.{length, getD, length-reverse}
+use lib.Dec.{ltb, leb, eqb, lit≤}
+use borrow.Author.Tests.{ltb-true, ltb-false, eqb-false}
+use Rattle.reader.specs.Choice.{if_then_else_}
+use Rattle.reader.specs.Record.{lengthOf, recordAt, decodeAt}
+use Rattle.reader.specs.Log.{logVersion, headerLength, maxRecords, countField, pendingCalls, pendingKind, addedValues, isIn, lastTick, Reading, readable, refused, eventFault, fault, afterDecode, unlessFault, scan, readPartial, pendingRemove, complete, readLog}
+use Rattle.reader.specs.Readable.{Within}
+use Rattle.reader.specs.declared.record.Event.{Event}
+use Rattle.reader.specs.declared.record.Event.the-variants.{CallAdd, CallRemove, ReturnAdd, ReturnRemove}
+use Rattle.reader.specs.declared.record.Record.{Record}
+use Rattle.reader.specs.declared.record.Decoded.{Decoded}
+use Rattle.reader.specs.declared.record.Decoded.the-variants.{Found, Malformed}
+
+-- a refusal of a record has a number from 1 to 10
+Known : Decoded → Type 0
+Known (Found r next) = Unit {0}
+Known (Malformed number) = (1 ≤ number) × (number ≤ 10)
+
+decode-known : (log : List ℕ) (at : ℕ) → Known (decodeAt log at)
+unfolding decodeAt Known
+decode-known log at =
+    go (leb (length log) at) (ltb (length log - (at + 1)) (getD log at 0)) (eqb (getD log at 0) 0) (eqb (lengthOf (getD log (at + 1) 0)) 0) (eqb (getD log at 0) (lengthOf (getD log (at + 1) 0)))
+  where
+    go : (a b c d e : Bool) → Known (if a then Malformed 1 else if b then Malformed 1 else if c then Malformed 5 else if d then Malformed 4 else if e then Found (recordAt log at) (at + 1 + getD log at 0) else Malformed 5)
+    go true b c d e = (lit≤ tt, lit≤ tt)
+    go false true c d e = (lit≤ tt, lit≤ tt)
+    go false false true d e = (lit≤ tt, lit≤ tt)
+    go false false false true e = (lit≤ tt, lit≤ tt)
+    go false false false false true = tt
+    go false false false false false = (lit≤ tt, lit≤ tt)
+
+fault-known : (past : List Record) (r : Record) → fault past r ≤ 10
+unfolding fault eventFault
+fault-known past r = tick (ltb (r .tick) (lastTick past))
+  where
+    pick : (b : Bool) (m n : ℕ) → m ≤ 10 → n ≤ 10 → (if b then m else n) ≤ 10
+    pick true m n hm hn = hm
+    pick false m n hm hn = hn
+
+    event : (e : Event) (kind : ℕ) (values : List ℕ) → eventFault e kind values ≤ 10
+    event (CallAdd v) kind values = pick (eqb kind 0) _ 7 (pick (isIn v values) 9 0 (lit≤ tt) (lit≤ tt)) (lit≤ tt)
+    event CallRemove kind values = pick (eqb kind 0) 0 7 (lit≤ tt) (lit≤ tt)
+    event ReturnAdd kind values = pick (eqb kind 1) 0 8 (lit≤ tt) (lit≤ tt)
+    event (ReturnRemove x) kind values = pick (eqb kind 2) 0 8 (lit≤ tt) (lit≤ tt)
+
+    tick : (b : Bool) → (if b then 6 else eventFault (r .event) (pendingKind (pendingCalls past) (r .client)) (addedValues past)) ≤ 10
+    tick b = pick b 6 _ (lit≤ tt) (event (r .event) (pendingKind (pendingCalls past) (r .client)) (addedValues past))
+
+scan-within : (log : List ℕ) (left at : ℕ) (past : List Record) → length past + left ≤ maxRecords → Within (scan log left at past)
+unfolding scan Known
+scan-within log zero at past h = go (ltb at (length log))
+  where
+    go : (b : Bool) → Within (if b then refused 1 (length past) else readable (reverse past))
+    go true = (lit≤ tt, lit≤ tt, omega arith)
+    go false = omega (arith, length-reverse past)
+scan-within log (suc left) at past h = decoded (decodeAt log at) (decode-known log at) (λ r next. scan-within log left next (r ∷ past) (omega arith))
+  where
+    faulted : (r : Record) (next : ℕ) (b : Bool) → eqb (fault past r) 0 ≡ b → Within (scan log left next (r ∷ past)) → Within (if b then scan log left next (r ∷ past) else refused (fault past r) (length past))
+    faulted r next true t rest = rest
+    faulted r next false t rest = let n : (fault past r ≡ 0 → ⊥) = eqb-false (fault past r) 0 t in (omega arith, fault-known past r, omega arith)
+
+    decoded : (d : Decoded) → Known d → ((r : Record) (next : ℕ) → Within (scan log left next (r ∷ past)))
+        → Within (afterDecode d (length past) (λ r next. unlessFault (fault past r) (length past) (scan log left next (r ∷ past))))
+    decoded (Found r next) k rest = faulted r next (eqb (fault past r) 0) refl (rest r next)
+    decoded (Malformed number) k rest = (k .0, k .1, omega arith)
+
+partial-within : (log : List ℕ) → Within (readPartial log)
+unfolding readPartial
+partial-within log = go (ltb (length log) headerLength) (eqb (getD log 0 0) logVersion) (ltb maxRecords (countField log)) refl
+  where
+    go : (a b c : Bool) → ltb maxRecords (countField log) ≡ c → Within (if a then refused 1 0 else if b then (if c then refused 3 0 else scan log (countField log) headerLength []) else refused 2 0)
+    go true b c t = (lit≤ tt, lit≤ tt, lit≤ tt)
+    go false false c t = (lit≤ tt, lit≤ tt, lit≤ tt)
+    go false true true t = (lit≤ tt, lit≤ tt, lit≤ tt)
+    go false true false t = scan-within log (countField log) headerLength [] (omega (arith, ltb-false maxRecords (countField log) t))
+
+complete-within : (reading : Reading) → Within reading → Within (complete reading)
+complete-within (readable records) w = go (ltb (pendingRemove records) (length records)) refl
+  where
+    go : (b : Bool) → ltb (pendingRemove records) (length records) ≡ b → Within (if b then refused 10 (pendingRemove records) else readable records)
+    go true t = (lit≤ tt, lit≤ tt, omega (arith, ltb-true (pendingRemove records) (length records) t))
+    go false t = w
+complete-within (refused number index) w = w
+
+pub log-within : (log : List ℕ) → Within (readLog log)
+log-within log = complete-within (readPartial log) (partial-within log)

@@ -1,0 +1,221 @@
+-- The tables hold what they should after each record: what a record that nothing is wrong with does to them.
+use Prim.Native.Nat.{ℕ, zero, suc, _+_, _-_, _*_, _≤_, _<_}
+use native.Mathlib.Omega.{arith}
+use native.Mathlib.Numerals.{add-one}
+use mathlib.Core.Path.{_≡_, refl, sym, ap, _∙_}
+use mathlib.Core.Bool.{Bool, true, false, not}
+use mathlib.Core.List.{List, [], _∷_, _++_, map, map-append, append-nil}
+use lib.ListN.{length, take, length-append}
+use lib.Dec.{ltb, eqb, lit≤}
+use borrow.Author.Tests.{le-ltb, eqb-true, ne-eqb, eq-eqb}
+use Rattle.reader.specs.Choice.{if_then_else_}
+use Rattle.reader.specs.Log.{maxRecords, Call, callOf, ofOthers, pendingCalls, pendingKind, valueOf, addedValues, isIn, lastTick, isCall, operations, eventFault, fault}
+use Rattle.reader.specs.Readable.{asks}
+use Rattle.reader.specs.Tables.{position, without, code, kindOfFound, eventFaultIn, faultIn, PendingKept, AddedKept, Room, Kept, Ended, Pushed}
+use Rattle.reader.specs.declared.record.Event.{Event}
+use Rattle.reader.specs.declared.record.Event.the-variants.{CallAdd, CallRemove, ReturnAdd, ReturnRemove}
+use Rattle.reader.specs.declared.record.Record.{Record}
+use Rattle.reader.specs.declared.log.Progress.{Progress}
+use Rattle.reader.proofs.Pending.{Sound, others-all, others-without, pending-sound, pending-few, kind-found, client-in, map-without, length-without}
+
+-- what the code finds wrong is what is wrong
+pub fault-found : {past : List Record} {p : Progress} {clients codes values : List ℕ} → Kept past p clients codes values → (r : Record) → faultIn r p clients codes values ≡ fault past r
+unfolding fault faultIn eventFault
+fault-found {past} {p} {clients} {codes} {values} k r =
+    rw (k .tick, k .pending .clients-are, k .pending .codes-are, k .added .values-are)
+    (ap (λ (f : ℕ). if ltb (r .tick) (lastTick past) then 6 else f) (go (r .event)))
+  where
+    calls : List Call
+    calls = pendingCalls past
+
+    sound : Sound calls
+    sound = pending-sound past
+
+    busy : (a b : ℕ) (t : Bool) → (if not t then a else b) ≡ (if t then b else a)
+    busy a b true = refl
+    busy a b false = refl
+
+    go : (e : Event) → eventFaultIn e (r .client) (map (λ call. call .client) calls) (map code calls) (addedValues past) ≡ eventFault e (pendingKind calls (r .client)) (addedValues past)
+    go (CallAdd v) = rw (client-in (r .client) calls sound) (busy 7 (if isIn v (addedValues past) then 9 else 0) (eqb (pendingKind calls (r .client)) 0))
+    go CallRemove = rw (client-in (r .client) calls sound) (busy 7 0 (eqb (pendingKind calls (r .client)) 0))
+    go ReturnAdd = ap (λ (k : ℕ). if eqb k 1 then 0 else 8) (kind-found (r .client) calls sound)
+    go (ReturnRemove x) = ap (λ (k : ℕ). if eqb k 2 then 0 else 8) (kind-found (r .client) calls sound)
+
+-- a record that nothing is wrong with finds the call pending that it asks for
+pub asked : (past : List Record) (r : Record) → fault past r ≡ 0 → pendingKind (pendingCalls past) (r .client) ≡ asks (r .event)
+unfolding fault eventFault
+asked past r ok = tick (ltb (r .tick) (lastTick past)) ok
+  where
+    kind : ℕ
+    kind = pendingKind (pendingCalls past) (r .client)
+
+    values : List ℕ
+    values = addedValues past
+
+    none : (n : ℕ) (b : Bool) → eqb kind 0 ≡ b → (if b then n else 7) ≡ 0 → kind ≡ 0
+    none n true e z = eqb-true kind 0 e
+    none n false e z = absurd (omega arith)
+
+    one : (k : ℕ) (b : Bool) → eqb kind k ≡ b → _≡_ {A = ℕ} (if b then 0 else 8) 0 → kind ≡ k
+    one k true e z = eqb-true kind k e
+    one k false e z = absurd (omega arith)
+
+    event : (e : Event) → eventFault e kind values ≡ 0 → kind ≡ asks e
+    event (CallAdd v) z = none (if isIn v values then 9 else 0) (eqb kind 0) refl z
+    event CallRemove z = none 0 (eqb kind 0) refl z
+    event ReturnAdd z = one 1 (eqb kind 1) refl z
+    event (ReturnRemove x) z = one 2 (eqb kind 2) refl z
+
+    tick : (b : Bool) → (if b then 6 else eventFault (r .event) kind values) ≡ 0 → kind ≡ asks (r .event)
+    tick true z = absurd (omega arith)
+    tick false z = event (r .event) z
+
+-- a return makes no call and adds no value
+returns-nothing : (e : Event) (client index : ℕ) → (asks e ≡ 0 → ⊥) → (callOf e client index ≡ []) × (valueOf e ≡ []) × (isCall e ≡ 0)
+returns-nothing (CallAdd v) client index n = absurd (n refl)
+returns-nothing CallRemove client index n = absurd (n refl)
+returns-nothing ReturnAdd client index n = (refl, refl, refl)
+returns-nothing (ReturnRemove x) client index n = (refl, refl, refl)
+
+-- a call by an idle client is pending behind the others
+called : (past : List Record) (r : Record) (kind : ℕ) → callOf (r .event) (r .client) (length past) ≡ record { client = r .client; kind = kind; index = length past } ∷ []
+    → pendingKind (pendingCalls past) (r .client) ≡ 0
+    → pendingCalls (r ∷ past) ≡ pendingCalls past ++ (record { client = r .client; kind = kind; index = length past } ∷ [])
+unfolding pendingCalls
+called past r kind call idle = rw (others-all (r .client) (pendingCalls past) (pending-sound past) idle, call) refl
+
+-- a return takes its client's call out
+returned : (past : List Record) (r : Record) → (asks (r .event) ≡ 0 → ⊥) → pendingKind (pendingCalls past) (r .client) ≡ asks (r .event)
+    → (position (r .client) (map (λ call. call .client) (pendingCalls past)) < length (pendingCalls past))
+    × (pendingCalls (r ∷ past) ≡ without (position (r .client) (map (λ call. call .client) (pendingCalls past))) (pendingCalls past))
+unfolding pendingCalls
+returned past r n held =
+    let out = others-without (r .client) (pendingCalls past) (pending-sound past) (λ z. n (sym held ∙ z)) in
+    (out .0, rw (returns-nothing (r .event) (r .client) (length past) n .0, append-nil) (out .1))
+
+added-few : (past : List Record) → length (addedValues past) ≤ length past
+unfolding addedValues
+added-few [] = omega arith
+added-few (r ∷ past) = simp length-append (omega (arith, added-few past, value-few (r .event)))
+  where
+    value-few : (e : Event) → length (valueOf e) ≤ 1
+    value-few (CallAdd v) = lit≤ tt
+    value-few CallRemove = lit≤ tt
+    value-few ReturnAdd = lit≤ tt
+    value-few (ReturnRemove x) = lit≤ tt
+
+pub operations-few : (past : List Record) → operations past ≤ length past
+unfolding operations
+operations-few [] = omega arith
+operations-few (r ∷ past) = omega (arith, operations-few past, one (r .event))
+  where
+    one : (e : Event) → isCall e ≤ 1
+    one (CallAdd v) = lit≤ tt
+    one CallRemove = lit≤ tt
+    one ReturnAdd = lit≤ tt
+    one (ReturnRemove x) = lit≤ tt
+
+-- the tables have room while there are records to come
+pub has-room : {past : List Record} {p : Progress} {clients codes values : List ℕ} → Kept past p clients codes values → length past < maxRecords → Room p clients codes values
+has-room {past} k h = record {
+  pending = omega (arith, k .pending .counted, pending-few past);
+  added = omega (arith, k .added .counted, added-few past);
+  operations = omega (arith, k .calls, operations-few past);
+  clients-sized = k .pending .clients-sized;
+  codes-sized = k .pending .codes-sized;
+  values-sized = k .added .values-sized;
+}
+
+-- tables of which nothing is in use hold what is known before the first record
+pub keeps-none : (at : ℕ) (clients codes values : List ℕ) → length clients ≡ maxRecords → length codes ≡ maxRecords → length values ≡ maxRecords
+    → Kept [] (record { at = at; tick = 0; pending = 0; added = 0; operations = 0 }) clients codes values
+unfolding pendingCalls addedValues operations
+keeps-none at clients codes values lc ld lv = record {
+  tick = refl;
+  calls = refl;
+  pending = record { counted = refl; clients-are = refl; codes-are = refl; clients-sized = lc; codes-sized = ld };
+  added = record { counted = refl; values-are = refl; values-sized = lv };
+}
+
+-- a number that was put behind others, named anew
+pub pushed-as : {count x y : ℕ} {table table' : List ℕ} → x ≡ y → Pushed count x table table' → Pushed count y table table'
+pushed-as {count} {table = table} {table' = table'} e p = rw e at p
+
+module _ {past : List Record} (r : Record) where
+  pending-called : {count : ℕ} {clients codes clients' codes' : List ℕ} → PendingKept past count clients codes → (kind : ℕ)
+      → callOf (r .event) (r .client) (length past) ≡ record { client = r .client; kind = kind; index = length past } ∷ []
+      → pendingKind (pendingCalls past) (r .client) ≡ 0
+      → Pushed count (r .client) clients clients' → Pushed count (length past * 4 + kind) codes codes' → PendingKept (r ∷ past) (count + 1) clients' codes'
+  pending-called {count} {clients} {codes} k kind call idle pc pd =
+      let is = called past r kind call idle in
+      record {
+        counted = rw (is, length-append) (omega (arith, k .counted));
+        clients-are = rw (is, map-append, ← (k .clients-are)) (pc .holds);
+        codes-are = rw (is, map-append, ← (k .codes-are)) (pd .holds);
+        clients-sized = pc .sized;
+        codes-sized = pd .sized;
+      }
+
+  pending-returned : {count left : ℕ} {clients codes clients' codes' : List ℕ} → PendingKept past count clients codes → (asks (r .event) ≡ 0 → ⊥)
+      → pendingKind (pendingCalls past) (r .client) ≡ asks (r .event) → Ended count (r .client) clients codes left clients' codes' → PendingKept (r ∷ past) left clients' codes'
+  pending-returned {count} {left} {clients} {codes} {clients'} {codes'} k n held e =
+      let out = returned past r n held in
+      let at : position (r .client) (take count clients) ≡ position (r .client) (map (λ call. call .client) (pendingCalls past)) = ap (position (r .client)) (k .clients-are) in
+      let there : position (r .client) (take count clients) < count = omega (arith, out .0, k .counted) in
+      record {
+        counted = rw (out .1, length-without _ (pendingCalls past) (out .0)) (omega (arith, e .counted there, k .counted));
+        clients-are = rw (out .1, map-without) (e .clients-left there ∙ rw (at, k .clients-are) refl);
+        codes-are = rw (out .1, map-without) (e .codes-left there ∙ rw (at, k .codes-are) refl);
+        clients-sized = e .clients-sized;
+        codes-sized = e .codes-sized;
+      }
+
+  added-none : {count : ℕ} {values : List ℕ} → AddedKept past count values → valueOf (r .event) ≡ [] → AddedKept (r ∷ past) count values
+  unfolding addedValues
+  added-none k z = record {
+    counted = rw (z, append-nil) (k .counted);
+    values-are = rw (z, append-nil) (k .values-are);
+    values-sized = k .values-sized;
+  }
+
+  added-one : {count v : ℕ} {values values' : List ℕ} → AddedKept past count values → valueOf (r .event) ≡ v ∷ [] → Pushed count v values values' → AddedKept (r ∷ past) (count + 1) values'
+  unfolding addedValues
+  added-one k z p = record {
+    counted = rw (z, length-append) (omega (arith, k .counted));
+    values-are = rw (z, ← (k .values-are)) (p .holds);
+    values-sized = p .sized;
+  }
+
+  -- all that is kept, after a record of each kind
+  module _ {p : Progress} {clients codes values clients' codes' : List ℕ} (k : Kept past p clients codes values) (ok : fault past r ≡ 0) (next : ℕ) where
+    pub keeps-add : {v : ℕ} {values' : List ℕ} → r .event ≡ CallAdd v → Pushed (p .pending) (r .client) clients clients' → Pushed (p .pending) (length past * 4 + 1) codes codes' → Pushed (p .added) v values values'
+        → Kept (r ∷ past) (record { at = next; tick = r .tick; pending = p .pending + 1; added = p .added + 1; operations = p .operations + 1 }) clients' codes' values'
+    unfolding operations
+    keeps-add e pc pd pv = record {
+      tick = refl;
+      calls = rw e (omega (arith, k .calls));
+      pending = pending-called (k .pending) 1 (rw e refl) (asked past r ok ∙ ap asks e) pc pd;
+      added = added-one (k .added) (rw e refl) pv;
+    }
+
+    pub keeps-remove : r .event ≡ CallRemove → Pushed (p .pending) (r .client) clients clients' → Pushed (p .pending) (length past * 4 + 2) codes codes'
+        → Kept (r ∷ past) (record { at = next; tick = r .tick; pending = p .pending + 1; added = p .added; operations = p .operations + 1 }) clients' codes' values
+    unfolding operations
+    keeps-remove e pc pd = record {
+      tick = refl;
+      calls = rw e (omega (arith, k .calls));
+      pending = pending-called (k .pending) 2 (rw e refl) (asked past r ok ∙ ap asks e) pc pd;
+      added = added-none (k .added) (rw e refl);
+    }
+
+    pub keeps-return : {left : ℕ} → (asks (r .event) ≡ 0 → ⊥) → Ended (p .pending) (r .client) clients codes left clients' codes'
+        → Kept (r ∷ past) (record { at = next; tick = r .tick; pending = left; added = p .added; operations = p .operations }) clients' codes' values
+    unfolding operations
+    keeps-return n e =
+        let nothing = returns-nothing (r .event) (r .client) (length past) n in
+        record {
+          tick = refl;
+          calls = rw (nothing .2) (omega (arith, k .calls));
+          pending = pending-returned (k .pending) n (asked past r ok) e;
+          added = added-none (k .added) (nothing .1);
+        }

@@ -1,0 +1,105 @@
+-- Laws of the lists that the tables hold.
+use Prim.Native.Nat.{ℕ, zero, suc, _+_, _-_, _/_, _%_, _≤_, _<_}
+use native.Mathlib.Omega.{arith}
+use native.Mathlib.Numerals.{add-one}
+use mathlib.Core.Path.{_≡_, refl, sym, ap, _∙_}
+use mathlib.Core.Bool.{Bool, true, false}
+use mathlib.Core.List.{List, [], _∷_, _++_, append-assoc, append-nil}
+use lib.ListN.{length, getD, set, take, drop, drop-of-length-le}
+use lib.Seq.{take-suc, take-suc-set, take-set-lt, drop-cons, drop-set-lt, getD-take, length-take-le}
+use lib.Dec.{eqb}
+use borrow.Author.Tests.{lt-ltb, le-ltb, eq-eqb, ne-eqb}
+use Rattle.reader.specs.Choice.{if_then_else_}
+use Rattle.reader.specs.Log.{isIn}
+use Rattle.reader.specs.Tables.{position, kindOfFound, earliestCode}
+
+pub isIn-snoc : (v : ℕ) (xs : List ℕ) (y : ℕ) → isIn v (xs ++ (y ∷ [])) ≡ (if isIn v xs then true else eqb y v)
+unfolding isIn
+isIn-snoc v [] y = go (eqb y v)
+  where
+    go : (b : Bool) → (if b then true else false) ≡ b
+    go true = refl
+    go false = refl
+isIn-snoc v (x ∷ xs) y = go (eqb x v) (isIn-snoc v xs y)
+  where
+    go : (b : Bool) → isIn v (xs ++ (y ∷ [])) ≡ (if isIn v xs then true else eqb y v)
+        → (if b then true else isIn v (xs ++ (y ∷ []))) ≡ (if (if b then true else isIn v xs) then true else eqb y v)
+    go true e = refl
+    go false e = e
+
+-- one entry more: it is the one that is looked for, or not
+pub isIn-hit : (v : ℕ) (xs : List ℕ) (i : ℕ) → i < length xs → getD xs i 0 ≡ v → true ≡ isIn v (take (i + 1) xs)
+isIn-hit v xs i h e = rw (add-one, take-suc xs i 0 h, isIn-snoc v (take i xs) (getD xs i 0), eq-eqb _ _ e) (go (isIn v (take i xs)))
+  where
+    go : (b : Bool) → true ≡ (if b then true else true)
+    go true = refl
+    go false = refl
+
+pub isIn-miss : (v : ℕ) (xs : List ℕ) (i : ℕ) → i < length xs → (getD xs i 0 ≡ v → ⊥) → isIn v (take i xs) ≡ isIn v (take (i + 1) xs)
+isIn-miss v xs i h n = rw (add-one, take-suc xs i 0 h, isIn-snoc v (take i xs) (getD xs i 0), ne-eqb _ _ n) (go (isIn v (take i xs)))
+  where
+    go : (b : Bool) → b ≡ (if b then true else false)
+    go true = refl
+    go false = refl
+
+-- the entries in use, the first `count` of a table
+module _ (ys : List ℕ) (count : ℕ) (long : count ≤ length ys) where
+  used : length (take count ys) ≡ count
+  used = length-take-le count ys long
+
+  -- those from i on begin with the entry at i
+  from : (i : ℕ) → i < count → drop i (take count ys) ≡ getD ys i 0 ∷ drop (i + 1) (take count ys)
+  from i h = rw (drop-cons (take count ys) i 0 (omega (arith, used)), getD-take count ys i 0 h, add-one)
+
+  past-all : drop count (take count ys) ≡ []
+  past-all = drop-of-length-le (take count ys) {i = count} (omega (arith, used))
+
+  pub position-hit : (x i : ℕ) → i < count → getD ys i 0 ≡ x → position x (drop i (take count ys)) ≡ 0
+  unfolding position
+  position-hit x i h e = rw (from i h, eq-eqb _ _ e)
+
+  pub position-miss : (x i : ℕ) → i < count → (getD ys i 0 ≡ x → ⊥) → position x (drop i (take count ys)) ≡ suc (position x (drop (i + 1) (take count ys)))
+  unfolding position
+  position-miss x i h n = rw (from i h, ne-eqb _ _ n)
+
+  pub position-none : (x : ℕ) → position x (drop count (take count ys)) ≡ 0
+  unfolding position
+  position-none x = rw past-all
+
+  pub earliest-hit : (none i : ℕ) → i < count → getD ys i 0 % 4 ≡ 2 → earliestCode (drop i (take count ys)) none ≡ getD ys i 0 / 4
+  unfolding earliestCode
+  earliest-hit none i h e = rw (from i h, eq-eqb _ _ e)
+
+  pub earliest-miss : (none i : ℕ) → i < count → (getD ys i 0 % 4 ≡ 2 → ⊥) → earliestCode (drop i (take count ys)) none ≡ earliestCode (drop (i + 1) (take count ys)) none
+  unfolding earliestCode
+  earliest-miss none i h n = rw (from i h, ne-eqb _ _ n)
+
+  pub earliest-none : (none : ℕ) → earliestCode (drop count (take count ys)) none ≡ none
+  unfolding earliestCode
+  earliest-none none = rw past-all
+
+-- the kind of the client found at k, or of none
+module _ (client count : ℕ) (clients codes : List ℕ) (long : count ≤ length clients) (k : ℕ) (found : k ≡ position client (take count clients)) where
+  pub kind-hit : k < count → getD codes k 0 % 4 ≡ kindOfFound client (take count clients) (take count codes)
+  kind-hit h = rw (used clients count long, ← found, lt-ltb k count h, getD-take count codes k 0 h)
+
+  pub kind-none : count ≤ k → 0 ≡ kindOfFound client (take count clients) (take count codes)
+  kind-none h = rw (used clients count long, ← found, le-ltb k count h)
+
+-- an entry moved up into the gap at i: the gap is one further on
+pub shift-step : (t : List ℕ) (count i : ℕ) → i + 1 < count → count ≤ length t
+    → take (i + 1) (set t i (getD t (i + 1) 0)) ++ drop (suc (i + 1)) (take count (set t i (getD t (i + 1) 0))) ≡ take i t ++ drop (suc i) (take count t)
+shift-step t count i h long =
+    let front : take (suc i) (set t i (getD t (suc i) 0)) ≡ take i t ++ (getD t (suc i) 0 ∷ []) = take-suc-set t i (getD t (suc i) 0) (omega arith) in
+    let back : drop (suc (suc i)) (take count (set t i (getD t (suc i) 0))) ≡ drop (suc (suc i)) (take count t) =
+    rw (take-set-lt count t i (getD t (suc i) 0) (omega arith), drop-set-lt (suc (suc i)) (take count t) i (getD t (suc i) 0) (omega arith)) refl in
+    let next : drop (suc i) (take count t) ≡ getD t (suc i) 0 ∷ drop (suc (suc i)) (take count t) =
+    drop-cons (take count t) (suc i) 0 (omega (arith, length-take-le count t long)) ∙ ap (λ (x : ℕ). x ∷ drop (suc (suc i)) (take count t)) (getD-take count t (suc i) 0 (omega arith)) in
+    rw (add-one, front, back, next, append-assoc)
+
+-- a gap at the last entry in use
+pub shift-end : (t : List ℕ) (count i : ℕ) → i + 1 ≡ count → count ≤ length t → take i t ++ drop (suc i) (take count t) ≡ take (count - 1) t
+shift-end t count i last long =
+    let none : drop (suc i) (take count t) ≡ [] = drop-of-length-le (take count t) {i = suc i} (omega (arith, length-take-le count t long)) in
+    let same : i ≡ count - 1 = omega arith in
+    rw (none, append-nil (take i t), same)

@@ -1,0 +1,157 @@
+-- The steps of a scan.
+use Prim.Native.Nat.{ℕ, zero, suc, _+_, _-_, _≤_, _<_}
+use native.Mathlib.Omega.{arith}
+use mathlib.Core.Path.{_≡_, refl, sym, ap, _∙_}
+use mathlib.Core.List.{List, [], _∷_, _++_, reverse, reverse-cons, reverse-reverse}
+use lib.ListN.{length, take, length-reverse}
+use lib.Dec.{ltb}
+use mathlib.Core.Bool.{Bool, true, false}
+use Rattle.reader.specs.Choice.{if_then_else_}
+use borrow.Author.Tests.{lt-ltb, le-ltb, eq-eqb, ne-eqb}
+use Rattle.reader.specs.Record.{decodeAt}
+use Rattle.reader.specs.Log.{Reading, readable, refused, headerLength, maxRecords, fault, scan, operations, pendingCalls, earliestRemove, pendingRemove, complete, checked}
+use Rattle.reader.specs.Tables.{faultIn, earliestCode, Fits, Room, Kept, Admitted, Goes, Stepped, surveyed}
+use Rattle.reader.specs.declared.record.Record.{Record}
+use Rattle.reader.specs.declared.record.Decoded.the-variants.{Found, Malformed}
+use Rattle.reader.specs.declared.log.Progress.{Progress}
+use Rattle.reader.specs.declared.log.Step.{Step}
+use Rattle.reader.specs.declared.log.Step.the-variants.{Next, Stop}
+use Rattle.reader.specs.declared.log.Survey.{Survey}
+use Rattle.reader.specs.declared.log.Survey.the-variants.{Whole, Broken}
+use Rattle.reader.specs.declared.log.Checked.{Checked}
+use Rattle.reader.specs.declared.log.Checked.the-variants.{Readable, Refused}
+use Rattle.reader.proofs.Keeping.{fault-found, has-room, keeps-none}
+use Rattle.reader.proofs.Pending.{pending-sound, pending-few, earliest-found}
+
+operations-append : (rs ss : List Record) → operations (rs ++ ss) ≡ operations rs + operations ss
+unfolding operations
+operations-append [] ss = omega arith
+operations-append (r ∷ rs) ss = omega (arith, operations-append rs ss)
+
+-- the number of operations does not ask for the records' sequence
+pub operations-reverse : (rs : List Record) → operations (reverse rs) ≡ operations rs
+unfolding operations
+operations-reverse [] = refl
+operations-reverse (r ∷ rs) = rw (reverse-cons, operations-append) (omega (arith, operations-reverse rs))
+
+-- After i of `count` records: the tables hold what is kept of them, and the rest of the scan is the whole.
+pub record Scanned (log : List ℕ) (count : ℕ) (clients codes values : List ℕ) (p : Progress) (i : ℕ) : Type 0 where
+  pub below : i ≤ count
+  pub past : List Record
+  pub counted : length past ≡ i
+  pub kept : Kept past p clients codes values
+  pub rest : scan log count headerLength [] ≡ scan log (count - i) (p .at) past
+
+module _ (log : List ℕ) (past : List Record) (at : ℕ) where
+  scan-malformed : {number : ℕ} → decodeAt log at ≡ Malformed number → (left : ℕ) → scan log (suc left) at past ≡ refused number (length past)
+  unfolding scan
+  scan-malformed e left = rw e refl
+
+  scan-fault : {r : Record} {next : ℕ} → decodeAt log at ≡ Found r next → (fault past r ≡ 0 → ⊥) → (left : ℕ) → scan log (suc left) at past ≡ refused (fault past r) (length past)
+  unfolding scan
+  scan-fault {r} e n left = rw (e, ne-eqb (fault past r) 0 n) refl
+
+  scan-on : {r : Record} {next : ℕ} → decodeAt log at ≡ Found r next → fault past r ≡ 0 → (left : ℕ) → scan log (suc left) at past ≡ scan log left next (r ∷ past)
+  unfolding scan
+  scan-on {r} e z left = rw (e, eq-eqb (fault past r) 0 z) refl
+
+-- one record read: it is malformed, something is wrong with it, or it is kept
+module _ {log : List ℕ} {index : ℕ} {p : Progress} {clients codes values clients' codes' values' : List ℕ} where
+  pub stops-malformed : {number : ℕ} → decodeAt log (p .at) ≡ Malformed number → Stepped log index p clients codes values (Stop number) clients' codes' values'
+  stops-malformed e = record { goes = λ past k len. scan-malformed log past (p .at) e }
+
+  pub stops-fault : {r : Record} {next f : ℕ} → decodeAt log (p .at) ≡ Found r next → f ≡ faultIn r p clients codes values → (f ≡ 0 → ⊥)
+      → Stepped log index p clients codes values (Stop f) clients' codes' values'
+  stops-fault {r} e is n = record {
+    goes = λ past k len left.
+        scan-fault log past (p .at) e (λ z. n (is ∙ (fault-found k r ∙ z))) left ∙ ap (λ (f : ℕ). refused f (length past)) (sym (is ∙ fault-found k r));
+  }
+
+  pub goes-on : {r : Record} {next f : ℕ} {q : Progress} → decodeAt log (p .at) ≡ Found r next → f ≡ faultIn r p clients codes values → f ≡ 0
+      → Admitted r next index p clients codes values q clients' codes' values' → Stepped log index p clients codes values (Next q) clients' codes' values'
+  goes-on {r} {next} e is z a = record {
+    goes = λ past k len.
+        let ok = sym (is ∙ fault-found k r) ∙ z in
+        (r, a .kept past k len ok, λ left. scan-on log past (p .at) e ok left ∙ ap (λ (at : ℕ). scan log left at (r ∷ past)) (sym (a .at)));
+  }
+
+-- the loop over the records: it starts, it stops at a refusal, it goes on, it meets left bytes, it ends
+pub loop-starts : (log : List ℕ) (count : ℕ) (clients codes values : List ℕ) → length clients ≡ maxRecords → length codes ≡ maxRecords → length values ≡ maxRecords
+    → Scanned log count clients codes values (record { at = headerLength; tick = 0; pending = 0; added = 0; operations = 0 }) 0
+loop-starts log count clients codes values lc ld lv = record {
+  below = omega arith;
+  past = [];
+  counted = refl;
+  kept = keeps-none headerLength clients codes values lc ld lv;
+  rest = ap (λ (n : ℕ). scan log n headerLength []) (omega arith);
+}
+
+module _ {log : List ℕ} {count : ℕ} {clients codes values : List ℕ} {p : Progress} {i : ℕ} (s : Scanned log count clients codes values p i) where
+  one-more : i < count → count - i ≡ suc (count - (i + 1))
+  one-more h = omega arith
+
+  pub loop-stops : {clients' codes' values' : List ℕ} {step : Step} {number : ℕ} → i < count → Stepped log i p clients codes values step clients' codes' values' → step ≡ Stop number
+      → Broken number i ≡ surveyed (scan log count headerLength [])
+  loop-stops {clients'} {codes'} {values'} {number = number} h g e =
+      let goes : Goes log (s .past) (p .at) clients' codes' values' (Stop number) = rw e at (g .goes (s .past) (s .kept) (s .counted)) in
+      rw (s .rest, one-more h, goes (count - (i + 1)), s .counted) refl
+
+  pub loop-goes : {clients' codes' values' : List ℕ} {step : Step} {q : Progress} → i < count → Stepped log i p clients codes values step clients' codes' values' → step ≡ Next q
+      → Scanned log count clients' codes' values' q (i + 1)
+  loop-goes {clients'} {codes'} {values'} {q = q} h g e =
+      let goes : Goes log (s .past) (p .at) clients' codes' values' (Next q) = rw e at (g .goes (s .past) (s .kept) (s .counted)) in
+      record {
+        below = omega arith;
+        past = goes .0 ∷ s .past;
+        counted = omega (arith, s .counted);
+        kept = goes .1;
+        rest = s .rest ∙ (ap (λ (n : ℕ). scan log n (p .at) (s .past)) (one-more h) ∙ goes .2 (count - (i + 1)));
+      }
+
+  pub loop-has-room : i < maxRecords → Room p clients codes values
+  loop-has-room h = has-room (s .kept) (omega (arith, s .counted))
+
+  pub loop-fits : count ≤ maxRecords → Fits (p .pending) codes
+  loop-fits h = record {
+    within = omega (arith, s .counted, s .below, s .kept .pending .counted, pending-few (s .past));
+    sized = s .kept .pending .codes-sized;
+  }
+
+  ends : count ≤ i → scan log count headerLength [] ≡ scan log zero (p .at) (s .past)
+  ends h = s .rest ∙ ap (λ (n : ℕ). scan log n (p .at) (s .past)) (omega arith)
+
+  pub loop-leaves-bytes : count ≤ i → p .at < length log → Broken 1 count ≡ surveyed (scan log count headerLength [])
+  unfolding scan
+  loop-leaves-bytes h more =
+      let all : length (s .past) ≡ count = omega (arith, s .counted, s .below) in
+      rw (ends h, lt-ltb (p .at) (length log) more, all) refl
+
+  pub loop-ends : {least : ℕ} → count ≤ i → length log ≤ p .at → least ≡ earliestCode (take (p .pending) codes) count → Whole count (p .operations) least ≡ surveyed (scan log count headerLength [])
+  unfolding scan
+  loop-ends {least} h none e =
+      let all : length (reverse (s .past)) ≡ count = omega (arith, length-reverse (s .past), s .counted, s .below) in
+      let found : earliestRemove (pendingCalls (s .past)) count ≡ least =
+      sym (earliest-found (pendingCalls (s .past)) count (pending-sound (s .past))) ∙ (ap (λ (cs : List ℕ). earliestCode cs count) (sym (s .kept .pending .codes-are)) ∙ sym e) in
+      rw (ends h, le-ltb (p .at) (length log) none, reverse-reverse (s .past), all, found, operations-reverse (s .past), s .kept .calls) refl
+
+-- the answers that the outcome of a scan gives: but for 10, and with 10
+abbrev pub partly : Survey → Checked
+partly (Whole records operations least) = Readable records operations
+partly (Broken number index) = Refused number index
+
+abbrev pub wholly : Survey → Checked
+wholly (Whole records operations least) = if ltb least records then Refused 10 least else Readable records operations
+wholly (Broken number index) = Refused number index
+
+pub partly-checked : (reading : Reading) → partly (surveyed reading) ≡ checked reading
+partly-checked (readable records) = refl
+partly-checked (refused number index) = refl
+
+pub wholly-checked : (reading : Reading) → wholly (surveyed reading) ≡ checked (complete reading)
+wholly-checked (readable records) = go (ltb (pendingRemove records) (length records))
+  where
+    go : (b : Bool) → (if b then Refused 10 (pendingRemove records) else Readable (length records) (operations records))
+        ≡ checked (if b then refused 10 (pendingRemove records) else readable records)
+    go true = refl
+    go false = refl
+wholly-checked (refused number index) = refl

@@ -1,0 +1,8 @@
+pub mod Choice
+pub mod Number
+pub mod Refusal
+pub mod Record
+pub mod Cursor
+pub mod Log
+pub mod Readable
+pub mod Tables

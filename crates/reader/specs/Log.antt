@@ -1,0 +1,163 @@
+-- Document 01, "The log" and "Turned down by what was handed in": what a whole log is read as. The records come one after the
+-- other; each is held against those before it, which stand here latest first; then left bytes, then 10.
+use Prim.Native.Nat.{ℕ, zero, suc, _+_}
+use mathlib.Core.Bool.{Bool, true, false}
+use mathlib.Core.List.{List, [], _∷_, _++_, reverse}
+use lib.ListN.{length, getD}
+use lib.Dec.{ltb, leb, eqb}
+use Rattle.reader.specs.Choice.{if_then_else_}
+use Rattle.reader.specs.Number.{bigEndian, bytesOf}
+use Rattle.reader.specs.Refusal.{malformed, wrongVersion, tooManyRecords, tickFell, clientBusy, nothingCalled, addedTwice, removePending}
+use Rattle.reader.specs.Record.{encode, decodeAt}
+use Rattle.reader.specs.declared.record.Removed.{Removed}
+use Rattle.reader.specs.declared.record.Event.{Event}
+use Rattle.reader.specs.declared.record.Event.the-variants.{CallAdd, CallRemove, ReturnAdd, ReturnRemove}
+use Rattle.reader.specs.declared.record.Record.{Record}
+use Rattle.reader.specs.declared.record.Decoded.{Decoded}
+use Rattle.reader.specs.declared.record.Decoded.the-variants.{Found, Malformed}
+use Rattle.reader.specs.declared.log.Checked.{Checked}
+use Rattle.reader.specs.declared.log.Checked.the-variants.{Readable, Refused}
+
+-- "Byte 0 is the version, 1. Bytes 1 and 2 are n, the number of records, at most 1,024."
+abbrev pub logVersion : ℕ
+logVersion = 1
+
+abbrev pub headerLength : ℕ
+headerLength = 3
+
+abbrev pub maxRecords : ℕ
+maxRecords = 1024
+
+abbrev pub countField : List ℕ → ℕ
+countField log = bigEndian log 1 2
+
+-- a pending (open) call: its client, its kind, 1 for add and 2 for remove, and the index of its record
+pub record Call : Type 0 where
+  pub client : ℕ
+  pub kind : ℕ
+  pub index : ℕ
+
+-- the call that a record makes, none if it is a return
+abbrev pub callOf : Event → ℕ → ℕ → List Call
+callOf (CallAdd v) client index = record { client = client; kind = 1; index = index } ∷ []
+callOf CallRemove client index = record { client = client; kind = 2; index = index } ∷ []
+callOf ReturnAdd client index = []
+callOf (ReturnRemove x) client index = []
+
+-- the calls of other clients than this one
+unfoldable pub ofOthers : ℕ → List Call → List Call
+ofOthers client [] = []
+ofOthers client (call ∷ calls) = if eqb (call .client) client then ofOthers client calls else call ∷ ofOthers client calls
+
+-- the pending calls, earliest first: a call is pending until the next record of its client
+unfoldable pub pendingCalls : List Record → List Call
+pendingCalls [] = []
+pendingCalls (r ∷ past) = ofOthers (r .client) (pendingCalls past) ++ callOf (r .event) (r .client) (length past)
+
+-- the kind of a client's pending call, 0 if it has none
+unfoldable pub pendingKind : List Call → ℕ → ℕ
+pendingKind [] client = 0
+pendingKind (call ∷ calls) client = if eqb (call .client) client then call .kind else pendingKind calls client
+
+-- the index of the earliest pending remove, or `none` if there is none
+unfoldable pub earliestRemove : List Call → ℕ → ℕ
+earliestRemove [] none = none
+earliestRemove (call ∷ calls) none = if eqb (call .kind) 2 then call .index else earliestRemove calls none
+
+abbrev pub valueOf : Event → List ℕ
+valueOf (CallAdd v) = v ∷ []
+valueOf CallRemove = []
+valueOf ReturnAdd = []
+valueOf (ReturnRemove x) = []
+
+-- the values called to be added
+unfoldable pub addedValues : List Record → List ℕ
+addedValues [] = []
+addedValues (r ∷ past) = addedValues past ++ valueOf (r .event)
+
+unfoldable pub isIn : ℕ → List ℕ → Bool
+isIn v [] = false
+isIn v (x ∷ xs) = if eqb x v then true else isIn v xs
+
+abbrev pub lastTick : List Record → ℕ
+lastTick [] = 0
+lastTick (r ∷ past) = r .tick
+
+-- 7, 8 and 9: what is wrong with an event of a client whose pending call has this kind; 0 for nothing
+unfoldable pub eventFault : Event → ℕ → List ℕ → ℕ
+eventFault (CallAdd v) pending values = if eqb pending 0 then (if isIn v values then addedTwice else 0) else clientBusy
+eventFault CallRemove pending values = if eqb pending 0 then 0 else clientBusy
+eventFault ReturnAdd pending values = if eqb pending 1 then 0 else nothingCalled
+eventFault (ReturnRemove x) pending values = if eqb pending 2 then 0 else nothingCalled
+
+-- 6 to 9: what is wrong with a record behind those before it; 0 for nothing
+unfoldable pub fault : List Record → Record → ℕ
+fault past r =
+    if ltb (r .tick) (lastTick past) then tickFell else
+    eventFault (r .event) (pendingKind (pendingCalls past) (r .client)) (addedValues past)
+
+-- what a log is read as: its records, first to last, or a refusal with its number and index
+pub data Reading : Type 0 where
+  readable : List Record → Reading
+  refused : ℕ → ℕ → Reading
+
+abbrev pub afterDecode : Decoded → ℕ → (Record → ℕ → Reading) → Reading
+afterDecode (Found r next) index rest = rest r next
+afterDecode (Malformed number) index rest = refused number index
+
+abbrev pub unlessFault : ℕ → ℕ → Reading → Reading
+unlessFault number index rest = if eqb number 0 then rest else refused number index
+
+-- the records from position `at` on, `left` of them, behind those of the past
+unfoldable pub scan : List ℕ → ℕ → ℕ → List Record → Reading
+scan log zero at past = if ltb at (length log) then refused malformed (length past) else readable (reverse past)
+scan log (suc left) at past =
+    afterDecode (decodeAt log at) (length past)
+    (λ r next. unlessFault (fault past r) (length past) (scan log left next (r ∷ past)))
+
+-- a log but for 10
+unfoldable pub readPartial : List ℕ → Reading
+readPartial log =
+    if ltb (length log) headerLength then refused malformed 0 else
+    if eqb (getD log 0 0) logVersion then
+    (if ltb maxRecords (countField log) then refused tooManyRecords 0 else scan log (countField log) headerLength [])
+    else refused wrongVersion 0
+
+-- the index of the earliest remove without return, or the number of records if there is none
+abbrev pub pendingRemove : List Record → ℕ
+pendingRemove records = earliestRemove (pendingCalls (reverse records)) (length records)
+
+-- 10
+abbrev pub complete : Reading → Reading
+complete (readable records) =
+    if ltb (pendingRemove records) (length records) then refused removePending (pendingRemove records) else readable records
+complete (refused number index) = refused number index
+
+-- a log: "A log with none of 1 to 10 .. is readable."
+abbrev pub readLog : List ℕ → Reading
+readLog log = complete (readPartial log)
+
+abbrev pub isCall : Event → ℕ
+isCall (CallAdd v) = 1
+isCall CallRemove = 1
+isCall ReturnAdd = 0
+isCall (ReturnRemove x) = 0
+
+-- "Operations are numbered from 0 in the order of their call records": how many there are
+unfoldable pub operations : List Record → ℕ
+operations [] = 0
+operations (r ∷ records) = isCall (r .event) + operations records
+
+-- the answer of a check: the number of records and of operations, or the refusal's number and index
+abbrev pub checked : Reading → Checked
+checked (readable records) = Readable (length records) (operations records)
+checked (refused number index) = Refused number index
+
+-- the bytes of records, one after the other
+unfoldable pub encodeAll : List Record → List ℕ
+encodeAll [] = []
+encodeAll (r ∷ records) = encode r ++ encodeAll records
+
+-- records put back into a log
+abbrev pub encodeLog : List Record → List ℕ
+encodeLog records = logVersion ∷ bytesOf 2 (length records) ++ encodeAll records

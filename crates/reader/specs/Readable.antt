@@ -1,0 +1,83 @@
+-- What holds of the records of a readable log: the facts that everything above the reader may rest on.
+-- Document 01, "The log" and "Turned down by what was handed in".
+use Prim.Native.Nat.{ℕ, suc, _+_, _≤_, _<_}
+use mathlib.Core.Path.{_≡_}
+use mathlib.Core.List.{List, [], _∷_}
+use lib.ListN.{length, getD, take}
+use Rattle.reader.specs.Record.{kindOf, lengthOf, decodeAt}
+use Rattle.reader.specs.Log.{headerLength, maxRecords, countField, Reading, readable, refused, encodeLog}
+use Rattle.reader.specs.declared.record.Removed.{Removed}
+use Rattle.reader.specs.declared.record.Event.{Event}
+use Rattle.reader.specs.declared.record.Event.the-variants.{CallAdd, CallRemove, ReturnAdd, ReturnRemove}
+use Rattle.reader.specs.declared.record.Record.{Record}
+use Rattle.reader.specs.declared.record.Decoded.the-variants.{Found}
+
+-- Readable logs are short, and refusals have a number from 1 to 10 and an index up to the number of records.
+abbrev pub Within : Reading → Type 0
+Within (readable records) = length records ≤ maxRecords
+Within (refused number index) = (1 ≤ number) × (number ≤ 10) × (index ≤ maxRecords)
+
+-- every element is a byte
+abbrev pub Bytes : List ℕ → Type 0
+Bytes log = (i : ℕ) → getD log i 0 < 256
+
+-- the record with an index; behind the last one it is of no interest
+abbrev pub recordOf : List Record → ℕ → Record
+recordOf records i = getD records i (record { client = 0; tick = 0; event = CallRemove })
+
+-- the bytes that a record takes, its length byte and L more
+abbrev pub sizeOf : Record → ℕ
+sizeOf r = 1 + lengthOf (kindOf (r .event))
+
+unfoldable pub sizes : List Record → ℕ
+sizes [] = 0
+sizes (r ∷ records) = sizeOf r + sizes records
+
+-- where the record with an index stands: behind the header and the records before it
+abbrev pub offsetOf : List Record → ℕ → ℕ
+offsetOf records i = headerLength + sizes (take i records)
+
+-- the kind of the call that is pending when an event comes: a return asks for a call of its operation, a call for none, 0
+abbrev pub asks : Event → ℕ
+asks (CallAdd v) = 0
+asks CallRemove = 0
+asks ReturnAdd = 1
+asks (ReturnRemove x) = 2
+
+-- the kind of the call that is pending after an event: a call leaves itself, a return none, 0
+abbrev pub leaves : Event → ℕ
+leaves (CallAdd v) = 1
+leaves CallRemove = 2
+leaves ReturnAdd = 0
+leaves (ReturnRemove x) = 0
+
+-- record j is the next one of record i's client
+pub record Next (records : List Record) (i j : ℕ) : Type 0 where
+  pub later : i < j
+  pub there : j < length records
+  pub same : recordOf records j .client ≡ recordOf records i .client
+  pub between : (k : ℕ) → i < k → k < j → recordOf records k .client ≡ recordOf records i .client → ⊥
+
+-- A log that is readable but for 10, and its records.
+pub record PartialLog (log : List ℕ) (records : List Record) : Type 0 where
+  -- "Bytes 1 and 2 are n, the number of records, at most 1,024."
+  pub count : length records ≡ countField log
+  pub few : length records ≤ maxRecords
+  -- where each record stands, and that they fill the log
+  pub stands : (i : ℕ) → i < length records → decodeAt log (offsetOf records i) ≡ Found (recordOf records i) (offsetOf records (i + 1))
+  pub fills : offsetOf records (length records) ≡ length log
+  -- the records put back into bytes are the log
+  pub bytes : Bytes log → encodeLog records ≡ log
+  -- "Ticks are checked not to fall."
+  pub ticks : (i j : ℕ) → i ≤ j → j < length records → recordOf records i .tick ≤ recordOf records j .tick
+  -- a client's records go call, return, call, ..: the first is a call; a return that its call asks for follows a call, and a call follows a return
+  pub first : (j : ℕ) → j < length records → ((k : ℕ) → k < j → recordOf records k .client ≡ recordOf records j .client → ⊥) → asks (recordOf records j .event) ≡ 0
+  pub next : (i j : ℕ) → Next records i j → asks (recordOf records j .event) ≡ leaves (recordOf records i .event)
+  -- no value is called to be added twice
+  pub once : (i j v : ℕ) → i < j → j < length records → recordOf records i .event ≡ CallAdd v → recordOf records j .event ≡ CallAdd v → ⊥
+
+-- A readable log, and its records.
+pub record ReadableLog (log : List ℕ) (records : List Record) : Type 0 where
+  pub partial : PartialLog log records
+  -- every remove has a return: its client's next record, which asks for a remove's call by `next`
+  pub returned : (i : ℕ) → i < length records → recordOf records i .event ≡ CallRemove → (j : ℕ) × Next records i j

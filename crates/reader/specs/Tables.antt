@@ -1,0 +1,119 @@
+-- What the code keeps of the records that it has read, in tables of numbers. What a readable log is can be understood without this file.
+use Prim.Native.Nat.{ℕ, zero, suc, _+_, _-_, _*_, _/_, _%_, _≤_, _<_}
+use mathlib.Core.Path.{_≡_}
+use mathlib.Core.List.{List, [], _∷_, _++_, map}
+use lib.ListN.{length, getD, take, drop}
+use lib.Dec.{ltb, eqb}
+use Rattle.reader.specs.Choice.{if_then_else_}
+use Rattle.reader.specs.Log.{maxRecords, Call, Reading, readable, refused, pendingCalls, addedValues, lastTick, operations, pendingRemove, isIn, fault, scan}
+use Rattle.reader.specs.Refusal.{tickFell, clientBusy, nothingCalled, addedTwice}
+use Rattle.reader.specs.declared.record.Event.{Event}
+use Rattle.reader.specs.declared.record.Event.the-variants.{CallAdd, CallRemove, ReturnAdd, ReturnRemove}
+use Rattle.reader.specs.declared.record.Record.{Record}
+use Rattle.reader.specs.declared.log.Progress.{Progress}
+use Rattle.reader.specs.declared.log.Step.{Step}
+use Rattle.reader.specs.declared.log.Step.the-variants.{Next, Stop}
+use Rattle.reader.specs.declared.log.Survey.{Survey}
+use Rattle.reader.specs.declared.log.Survey.the-variants.{Whole, Broken}
+
+-- the index of the first x in a list, or its length
+unfoldable pub position : ℕ → List ℕ → ℕ
+position x [] = 0
+position x (y ∷ ys) = if eqb y x then 0 else suc (position x ys)
+
+-- a list without what stands at an index
+abbrev pub without : {A : Type 0} → ℕ → List A → List A
+without k xs = take k xs ++ drop (suc k) xs
+
+-- the index and the kind of a call as one number
+abbrev pub code : Call → ℕ
+code call = call .index * 4 + call .kind
+
+-- the kind of a client's pending call, as lists of clients and codes have it: 0 if the client is not there
+abbrev pub kindOfFound : ℕ → List ℕ → List ℕ → ℕ
+kindOfFound client clients codes =
+    if ltb (position client clients) (length clients) then getD codes (position client clients) 0 % 4 else 0
+
+-- the index of the earliest pending remove, as the codes have it
+unfoldable pub earliestCode : List ℕ → ℕ → ℕ
+earliestCode [] none = none
+earliestCode (c ∷ cs) none = if eqb (c % 4) 2 then c / 4 else earliestCode cs none
+
+-- A table has as many entries as a log may have records, of which the first `count` are in use.
+pub record Fits (count : ℕ) (table : List ℕ) : Type 0 where
+  pub within : count ≤ maxRecords
+  pub sized : length table ≡ maxRecords
+
+-- x stands behind the entries in use.
+pub record Pushed (count x : ℕ) (table table' : List ℕ) : Type 0 where
+  pub holds : take (count + 1) table' ≡ take count table ++ (x ∷ [])
+  pub sized : length table' ≡ maxRecords
+
+-- There is room for one record more.
+pub record Room (p : Progress) (clients codes values : List ℕ) : Type 0 where
+  pub pending : p .pending < maxRecords
+  pub added : p .added < maxRecords
+  pub operations : p .operations < maxRecords
+  pub clients-sized : length clients ≡ maxRecords
+  pub codes-sized : length codes ≡ maxRecords
+  pub values-sized : length values ≡ maxRecords
+
+-- The tables hold the clients and the codes of the calls that are pending after the past.
+pub record PendingKept (past : List Record) (count : ℕ) (clients codes : List ℕ) : Type 0 where
+  pub counted : count ≡ length (pendingCalls past)
+  pub clients-are : take count clients ≡ map (λ call. call .client) (pendingCalls past)
+  pub codes-are : take count codes ≡ map code (pendingCalls past)
+  pub clients-sized : length clients ≡ maxRecords
+  pub codes-sized : length codes ≡ maxRecords
+
+-- The table holds the values added in the past.
+pub record AddedKept (past : List Record) (count : ℕ) (values : List ℕ) : Type 0 where
+  pub counted : count ≡ length (addedValues past)
+  pub values-are : take count values ≡ addedValues past
+  pub values-sized : length values ≡ maxRecords
+
+-- All that is kept of the past.
+pub record Kept (past : List Record) (p : Progress) (clients codes values : List ℕ) : Type 0 where
+  pub tick : p .tick ≡ lastTick past
+  pub calls : p .operations ≡ operations past
+  pub pending : PendingKept past (p .pending) clients codes
+  pub added : AddedKept past (p .added) values
+
+-- 6 to 9, as the tables have it
+abbrev pub eventFaultIn : Event → ℕ → List ℕ → List ℕ → List ℕ → ℕ
+eventFaultIn (CallAdd v) client clients codes values = if isIn client clients then clientBusy else if isIn v values then addedTwice else 0
+eventFaultIn CallRemove client clients codes values = if isIn client clients then clientBusy else 0
+eventFaultIn ReturnAdd client clients codes values = if eqb (kindOfFound client clients codes) 1 then 0 else nothingCalled
+eventFaultIn (ReturnRemove x) client clients codes values = if eqb (kindOfFound client clients codes) 2 then 0 else nothingCalled
+
+unfoldable pub faultIn : Record → Progress → List ℕ → List ℕ → List ℕ → ℕ
+faultIn r p clients codes values =
+    if ltb (r .tick) (p .tick) then tickFell else
+    eventFaultIn (r .event) (r .client) (take (p .pending) clients) (take (p .pending) codes) (take (p .added) values)
+
+-- The client's pending call, if it has one, is taken out of the tables, and `left` of them are left.
+pub record Ended (count client : ℕ) (clients codes : List ℕ) (left : ℕ) (clients' codes' : List ℕ) : Type 0 where
+  pub clients-sized : length clients' ≡ maxRecords
+  pub codes-sized : length codes' ≡ maxRecords
+  pub counted : position client (take count clients) < count → left ≡ count - 1
+  pub clients-left : position client (take count clients) < count → take left clients' ≡ without (position client (take count clients)) (take count clients)
+  pub codes-left : position client (take count clients) < count → take left codes' ≡ without (position client (take count clients)) (take count codes)
+
+-- The tables hold what they held and the record r, the next one to read stands at `next`.
+pub record Admitted (r : Record) (next index : ℕ) (p : Progress) (clients codes values : List ℕ) (q : Progress) (clients' codes' values' : List ℕ) : Type 0 where
+  pub at : q .at ≡ next
+  pub kept : (past : List Record) → Kept past p clients codes values → length past ≡ index → fault past r ≡ 0 → Kept (r ∷ past) q clients' codes' values'
+
+-- A step of the scan: it ends there with a refusal, or the tables hold one record more.
+abbrev pub Goes : List ℕ → List Record → ℕ → List ℕ → List ℕ → List ℕ → Step → Type 0
+Goes log past at clients codes values (Stop number) = (left : ℕ) → scan log (suc left) at past ≡ refused number (length past)
+Goes log past at clients codes values (Next q) =
+    (r : Record) × Kept (r ∷ past) q clients codes values × ((left : ℕ) → scan log (suc left) at past ≡ scan log left (q .at) (r ∷ past))
+
+pub record Stepped (log : List ℕ) (index : ℕ) (p : Progress) (clients codes values : List ℕ) (s : Step) (clients' codes' values' : List ℕ) : Type 0 where
+  pub goes : (past : List Record) → Kept past p clients codes values → length past ≡ index → Goes log past (p .at) clients' codes' values' s
+
+-- the answer of the scan, with the index of the earliest pending remove
+abbrev pub surveyed : Reading → Survey
+surveyed (readable records) = Whole (length records) (operations records) (pendingRemove records)
+surveyed (refused number index) = Broken number index

@@ -1,0 +1,34 @@
+-- What a C caller takes out of an answer is what was put in: the high 32 bits are 0 if the call was accepted, else the
+-- refusal's number; the low 32 bits are what the call returns, or the refusal's record index.
+use Prim.Native.Nat.{ℕ, _+_, _*_, _/_, _%_, _≤_, _<_}
+use native.Mathlib.Omega.{arith}
+use mathlib.Core.Path.{_≡_, refl, ap}
+use mathlib.Core.List.{List}
+use Rattle.reader.specs.Log.{Reading, readable, refused, readLog, checked, operations}
+use Rattle.reader.specs.Readable.{Within}
+use Rattle.reader.specs.declared.record.Record.{Record}
+use Rattle.reader.specs.declared.log.Checked.{Checked}
+use Rattle.reader.specs.declared.log.Checked.the-variants.{Readable, Refused}
+use Rattle.reader.proofs.Bounds.{log-within}
+use Rattle.reader.proofs.Keeping.{operations-few}
+use Rattle.yauponroof.specs.Answer.{refusalUnit, answerOf}
+
+pub accepted : (log : List ℕ) (records : List Record) → readLog log ≡ readable records
+    → (answerOf (checked (readLog log)) / refusalUnit ≡ 0) × (answerOf (checked (readLog log)) % refusalUnit ≡ operations records)
+accepted log records e =
+    let short : Within (readable records) = rw e at (log-within log) in
+    rw e (omega (arith, operations-few records))
+
+pub turned-down : (log : List ℕ) (number index : ℕ) → readLog log ≡ refused number index
+    → (answerOf (checked (readLog log)) / refusalUnit ≡ number) × (answerOf (checked (readLog log)) % refusalUnit ≡ index)
+turned-down log number index e =
+    let small : Within (refused number index) = rw e at (log-within log) in
+    rw e (omega arith)
+
+-- a refusal's index is small enough for the low half
+index-small : (reading : Reading) → Within reading → (number index : ℕ) → checked reading ≡ Refused number index → (number ≤ 10) × (index ≤ 1024)
+index-small (readable records) w number index e = let z : _≡_ {A = ℕ} 0 1 = cc in absurd (omega arith)
+index-small (refused n i) w number index e = let p : n ≡ number = cc in let q : i ≡ index = cc in omega arith
+
+pub refusal-fits : (log : List ℕ) {number index : ℕ} → checked (readLog log) ≡ Refused number index → (number ≤ 10) × (index ≤ 1024)
+refusal-fits log {number} {index} e = index-small (readLog log) (log-within log) number index e

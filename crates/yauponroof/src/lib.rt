@@ -1,0 +1,24 @@
+// The C interface, include/yauponroof.h: thin exports on byte slices and numbers. Every call answers one number, whose high
+// 32 bits are 0 if the call was accepted, else the refusal's number, and whose low 32 bits are what the call returns, or the
+// refusal's record index. specs/Answer.antt says which number each outcome is.
+ghost use mathlib.Core.Path.{_≡_};
+ghost use Rattle.reader.specs.Log.{readLog, checked};
+ghost use Rattle.yauponroof.specs.Answer.{answerOf};
+use reader::log::Checked;
+use reader::log::check;
+
+const REFUSED: u64 = 4294967296;
+
+// Checks a log. Returns the number of its operations, or a refusal from 1 to 10.
+#[no_mangle]
+pub extern "C" fn yr_check(log: &[u8]) -> u64
+    ensures { λ r. ⌜ r ≡ answerOf (checked (readLog (now (log .entry)))) ⌝ }
+{
+    match check(log) {
+        Checked::Readable {
+            records: _,
+            operations,
+        } => operations as u64,
+        Checked::Refused { number, index } => (number as u64) * REFUSED + index as u64,
+    }
+}

@@ -1,0 +1,151 @@
+/*
+ * yr_check through the header, as a program in C uses it. Prints a line for each check that fails
+ * and last 'N passed, M failed'; the exit status is 0 only if none failed.
+ */
+
+#include <stdio.h>
+
+#include "logs.h"
+#include "yauponroof.h"
+
+static unsigned passed, failed;
+
+static void count(int holds, const char *what)
+{
+    if (holds) {
+        passed++;
+    } else {
+        failed++;
+        printf("failed: %s\n", what);
+    }
+}
+
+static void expect_answer(yr_answer answer, uint32_t refusal, uint32_t value, const char *what)
+{
+    int holds = YR_REFUSED(answer) == refusal && YR_VALUE(answer) == value;
+    count(holds, what);
+    if (!holds)
+        printf("    answered %lu %lu, not %lu %lu\n", (unsigned long)YR_REFUSED(answer),
+               (unsigned long)YR_VALUE(answer), (unsigned long)refusal, (unsigned long)value);
+}
+
+static void expect_bytes(const uint8_t *bytes, size_t length, uint32_t refusal, uint32_t value,
+                         const char *what)
+{
+    expect_answer(yr_check(bytes, length), refusal, value, what);
+}
+
+static void expect_log(const struct log *log, uint32_t refusal, uint32_t value, const char *what)
+{
+    expect_bytes(log->bytes, log->length, refusal, value, what);
+}
+
+static void check_macros(void)
+{
+    yr_answer answer = (yr_answer)10 << 32 | 0xFFFFFFFEu;
+    expect_answer(answer, 10, 0xFFFFFFFEu, "the parts of an answer are told apart");
+    count(YR_REFUSED((yr_answer)1023) == 0, "an answer without refusal is accepted");
+    count(YR_LOG_MAX == 3 + 12 * YR_MAX_RECORDS, "YR_LOG_MAX is the longest log");
+    count(YR_SHEET_MAX == 4 + 2 * 682, "YR_SHEET_MAX is the longest sheet");
+    count(sizeof(yr_answer) == 8, "an answer has 64 bits");
+}
+
+static void check_headers(void)
+{
+    const uint8_t empty[] = {1, 0, 0};
+    const uint8_t version[] = {2, 0, 0};
+    const uint8_t records[] = {1, 4, 1};
+    const uint8_t left[] = {1, 0, 0, 0};
+    const uint8_t no_record[] = {1, 0, 1};
+    expect_bytes(empty, 0, YR_REFUSAL_BYTES, 0, "no bytes");
+    expect_bytes(empty, 2, YR_REFUSAL_BYTES, 0, "2 bytes");
+    expect_bytes(empty, sizeof empty, 0, 0, "no records");
+    expect_bytes(version, sizeof version, YR_REFUSAL_VERSION, 0, "version 2");
+    expect_bytes(records, sizeof records, YR_REFUSAL_RECORDS, 0, "1,025 records");
+    expect_bytes(left, sizeof left, YR_REFUSAL_BYTES, 0, "a byte behind no records");
+    expect_bytes(no_record, sizeof no_record, YR_REFUSAL_BYTES, 0, "the bytes end before record 0");
+}
+
+static void check_single_records(void)
+{
+    const uint8_t no_length[] = {1, 0, 1, 0};
+    const uint8_t kind[] = {1, 0, 1, 3, 9, 0, 0};
+    const uint8_t length[] = {1, 0, 1, 7, 1, 0, 1, 0, 0, 0, 1};
+    const uint8_t cut[] = {1, 0, 1, 7, 2, 0, 1, 0, 0, 0};
+    expect_bytes(no_length, sizeof no_length, YR_REFUSAL_LENGTH, 0, "L is 0");
+    expect_bytes(kind, sizeof kind, YR_REFUSAL_KIND, 0, "kind 9");
+    expect_bytes(length, sizeof length, YR_REFUSAL_LENGTH, 0, "a call of add with L = 7");
+    expect_bytes(cut, sizeof cut, YR_REFUSAL_BYTES, 0, "the bytes end inside record 0");
+}
+
+static void check_records(void)
+{
+    struct log log;
+
+    log_begin(&log);
+    log_record(&log, CALL_ADD, 1, 7);
+    log_record(&log, RETURN_ADD, 1, 0);
+    log_record(&log, CALL_REMOVE, 1, 0);
+    log_record(&log, RETURN_VALUE, 1, 7);
+    expect_log(&log, 0, 2, "an add and a remove");
+
+    log_record(&log, CALL_ADD, 2, 7);
+    expect_log(&log, YR_REFUSAL_VALUE, 4, "7 is added again");
+
+    log_begin(&log);
+    log_record(&log, CALL_ADD, 1, 7);
+    log_record(&log, CALL_REMOVE, 1, 0);
+    expect_log(&log, YR_REFUSAL_CALL, 1, "client 1 calls while at work");
+
+    log_begin(&log);
+    log_record(&log, CALL_ADD, 1, 7);
+    log_record(&log, RETURN_EMPTY, 1, 0);
+    expect_log(&log, YR_REFUSAL_RETURN, 1, "an add returns as a remove");
+
+    log_begin(&log);
+    log_record(&log, CALL_ADD, 1, 7);
+    log_record(&log, CALL_REMOVE, 2, 0);
+    log_record(&log, CALL_REMOVE, 3, 0);
+    expect_log(&log, YR_REFUSAL_PENDING_REMOVE, 1, "two removes do not return");
+
+    log_byte(&log, 0);
+    expect_log(&log, YR_REFUSAL_BYTES, 3, "a byte is left behind record 2");
+
+    log_begin(&log);
+    log_record(&log, CALL_ADD, 1, 7);
+    log_record(&log, CALL_ADD, 2, 8);
+    log.bytes[3 + 7] = 2;
+    expect_log(&log, YR_REFUSAL_TICK, 1, "the tick falls from 2 to 1");
+    log.bytes[3 + 7] = 1;
+    expect_log(&log, 0, 2, "the tick stays 1");
+}
+
+static void check_largest(void)
+{
+    struct log log, copy;
+
+    log_pending_adds(&log, YR_MAX_RECORDS);
+    copy = log;
+    count(log.length == YR_LOG_MAX, "1,024 adds fill YR_LOG_MAX bytes");
+    expect_log(&log, 0, 1024, "1,024 adds");
+    count(memcmp(&log, &copy, sizeof log) == 0, "the log is unchanged");
+    log_pending_adds(&log, YR_MAX_RECORDS + 1);
+    expect_log(&log, YR_REFUSAL_RECORDS, 0, "1,025 adds");
+    log_calls_then_returns(&log);
+    expect_log(&log, 0, 512, "512 calls, then their returns");
+    log_simulate(&log, CLIENTS_REUSED);
+    expect_log(&log, 0, 512, "a run of 8 clients");
+    log_simulate(&log, CLIENT_PER_OPERATION);
+    expect_log(&log, 0, 512, "a run with a client for each operation");
+}
+
+int main(void)
+{
+    check_macros();
+    check_headers();
+    check_single_records();
+    check_records();
+    check_largest();
+    printf("%u passed, %u failed\n", passed, failed);
+    return failed != 0;
+}

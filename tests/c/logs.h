@@ -1,0 +1,151 @@
+/*
+ * Logs for the C tests and the measurements. A log is written record by record into a lent buffer;
+ * the ticks rise by one.
+ */
+
+#ifndef LOGS_H
+#define LOGS_H
+
+#include <stddef.h>
+#include <stdint.h>
+#include <string.h>
+
+#include "yauponroof.h"
+
+enum kind { CALL_ADD = 1, CALL_REMOVE, RETURN_ADD, RETURN_VALUE, RETURN_EMPTY };
+
+/* The bytes of a log with room for records that are too many. */
+struct log {
+    uint8_t bytes[YR_LOG_MAX + 64];
+    size_t length;
+    unsigned records;
+};
+
+static inline void log_byte(struct log *log, unsigned byte)
+{
+    log->bytes[log->length++] = (uint8_t)byte;
+}
+
+static inline void log_set_n(struct log *log, unsigned n)
+{
+    log->bytes[1] = (uint8_t)(n >> 8);
+    log->bytes[2] = (uint8_t)n;
+}
+
+/* Begins a log of no records. */
+static inline void log_begin(struct log *log)
+{
+    memset(log, 0, sizeof *log);
+    log->bytes[0] = 1;
+    log->length = 3;
+}
+
+static inline void log_u32(struct log *log, uint32_t number)
+{
+    log_byte(log, number >> 24);
+    log_byte(log, number >> 16);
+    log_byte(log, number >> 8);
+    log_byte(log, number);
+}
+
+/* Appends a record and counts it; `value` matters for the two kinds that carry one. */
+static inline void log_record(struct log *log, enum kind kind, unsigned client, uint32_t value)
+{
+    int carries = kind == CALL_ADD || kind == RETURN_VALUE;
+    log_byte(log, carries ? 11 : 7);
+    log_byte(log, kind);
+    log_byte(log, client >> 8);
+    log_byte(log, client);
+    log_u32(log, log->records);
+    if (carries)
+        log_u32(log, value);
+    log->records++;
+    log_set_n(log, log->records);
+}
+
+/* n adds that never return, a client each. */
+static inline void log_pending_adds(struct log *log, unsigned n)
+{
+    log_begin(log);
+    for (unsigned i = 0; i < n; i++)
+        log_record(log, CALL_ADD, i, i);
+}
+
+/* 512 calls, alternately add and remove, then their 512 returns, a client each. */
+static inline void log_calls_then_returns(struct log *log)
+{
+    log_begin(log);
+    for (unsigned i = 0; i < 512; i++)
+        log_record(log, i % 2 == 0 ? CALL_ADD : CALL_REMOVE, i, i);
+    for (unsigned i = 0; i < 512; i++)
+        log_record(log, i % 2 == 0 ? RETURN_ADD : RETURN_VALUE, i, i - 1);
+}
+
+/* Who makes the calls of a simulated run. */
+enum clients { CLIENTS_REUSED, CLIENT_PER_OPERATION };
+
+#define WORKERS 8
+
+/* A client; while it is at work, the record that returns its operation. */
+struct worker {
+    unsigned client;
+    int at_work;
+    enum kind returns;
+    uint32_t value;
+};
+
+/* The state of a simulated run; values are numbered in the order in which they are added. */
+struct simulation {
+    uint32_t random;
+    uint32_t added;
+    uint32_t removed;
+    unsigned calls;
+};
+
+static inline unsigned simulation_random(struct simulation *run, unsigned bound)
+{
+    run->random = run->random * 1664525u + 1013904223u;
+    return (run->random >> 16) % bound;
+}
+
+/* Calls add or remove, which takes effect at once and returns later. */
+static inline void simulation_call(struct simulation *run, struct worker *worker, struct log *log)
+{
+    run->calls++;
+    worker->at_work = 1;
+    if (simulation_random(run, 2) == 0) {
+        worker->returns = RETURN_ADD;
+        log_record(log, CALL_ADD, worker->client, run->added++);
+        return;
+    }
+    worker->returns = RETURN_EMPTY;
+    if (run->removed < run->added) {
+        worker->returns = RETURN_VALUE;
+        worker->value = run->removed++;
+    }
+    log_record(log, CALL_REMOVE, worker->client, 0);
+}
+
+/* 1,024 records of a correct queue with 8 clients at work; every operation returns. */
+static inline void log_simulate(struct log *log, enum clients clients)
+{
+    struct simulation run = {1, 0, 0, 0};
+    struct worker workers[WORKERS];
+    memset(workers, 0, sizeof workers);
+    for (unsigned i = 0; i < WORKERS; i++)
+        workers[i].client = i;
+    log_begin(log);
+    while (log->records < YR_MAX_RECORDS) {
+        struct worker *worker = &workers[simulation_random(&run, WORKERS)];
+        if (worker->at_work) {
+            log_record(log, worker->returns, worker->client, worker->value);
+            worker->at_work = 0;
+        } else if (run.calls < YR_MAX_RECORDS / 2) {
+            if (clients == CLIENT_PER_OPERATION)
+                worker->client = run.calls;
+            simulation_call(&run, worker, log);
+        }
+    }
+}
+
+#endif /* LOGS_H */
