@@ -1,8 +1,8 @@
 -- What a log is read as stays within bounds.
-use Prim.Native.Nat.{ℕ, zero, suc, _+_, _-_, _≤_, _<_}
+use Prim.Native.Nat.{ℕ, zero, suc, _+_, _-_, _≤_}
 use native.Mathlib.Omega.{arith}
-use mathlib.Core.Path.{_≡_, refl, sym, ap, _∙_}
-use mathlib.Core.Bool.{Bool, true, false}
+use mathlib.Core.Path.{_≡_, refl}
+use mathlib.Core.Bool.{Bool, true, false, not}
 use mathlib.Core.List.{List, [], _∷_, reverse}
 use lib.ListN.{length, getD, length-reverse}
 use lib.Dec.{ltb, leb, eqb, lit≤}
@@ -27,7 +27,7 @@ unfolding decodeAt Known
 decode-known log at =
     go (leb (length log) at) (ltb (length log - (at + 1)) (getD log at 0)) (eqb (getD log at 0) 0) (eqb (lengthOf (getD log (at + 1) 0)) 0) (eqb (getD log at 0) (lengthOf (getD log (at + 1) 0)))
   where
-    go : (a b c d e : Bool) → Known (if a then Malformed 1 else if b then Malformed 1 else if c then Malformed 5 else if d then Malformed 4 else if e then Found (recordAt log at) (at + 1 + getD log at 0) else Malformed 5)
+    go : (a b c d e : Bool) → Known (if a then Malformed 1 else if b then Malformed 1 else if c then Malformed 5 else if d then Malformed 4 else if not e then Malformed 5 else Found (recordAt log at) (at + 1 + getD log at 0))
     go true b c d e = (lit≤ tt, lit≤ tt)
     go false true c d e = (lit≤ tt, lit≤ tt)
     go false false true d e = (lit≤ tt, lit≤ tt)
@@ -44,10 +44,10 @@ fault-known past r = tick (ltb (r .tick) (lastTick past))
     pick false m n hm hn = hn
 
     event : (e : Event) (kind : ℕ) (values : List ℕ) → eventFault e kind values ≤ 10
-    event (CallAdd v) kind values = pick (eqb kind 0) _ 7 (pick (isIn v values) 9 0 (lit≤ tt) (lit≤ tt)) (lit≤ tt)
-    event CallRemove kind values = pick (eqb kind 0) 0 7 (lit≤ tt) (lit≤ tt)
-    event ReturnAdd kind values = pick (eqb kind 1) 0 8 (lit≤ tt) (lit≤ tt)
-    event (ReturnRemove x) kind values = pick (eqb kind 2) 0 8 (lit≤ tt) (lit≤ tt)
+    event (CallAdd v) kind values = pick (not (eqb kind 0)) 7 _ (lit≤ tt) (pick (isIn v values) 9 0 (lit≤ tt) (lit≤ tt))
+    event CallRemove kind values = pick (not (eqb kind 0)) 7 0 (lit≤ tt) (lit≤ tt)
+    event ReturnAdd kind values = pick (not (eqb kind 1)) 8 0 (lit≤ tt) (lit≤ tt)
+    event (ReturnRemove x) kind values = pick (not (eqb kind 2)) 8 0 (lit≤ tt) (lit≤ tt)
 
     tick : (b : Bool) → (if b then 6 else eventFault (r .event) (pendingKind (pendingCalls past) (r .client)) (addedValues past)) ≤ 10
     tick b = pick b 6 _ (lit≤ tt) (event (r .event) (pendingKind (pendingCalls past) (r .client)) (addedValues past))
@@ -74,7 +74,7 @@ partial-within : (log : List ℕ) → Within (readPartial log)
 unfolding readPartial
 partial-within log = go (ltb (length log) headerLength) (eqb (getD log 0 0) logVersion) (ltb maxRecords (countField log)) refl
   where
-    go : (a b c : Bool) → ltb maxRecords (countField log) ≡ c → Within (if a then refused 1 0 else if b then (if c then refused 3 0 else scan log (countField log) headerLength []) else refused 2 0)
+    go : (a b c : Bool) → ltb maxRecords (countField log) ≡ c → Within (if a then refused 1 0 else if not b then refused 2 0 else if c then refused 3 0 else scan log (countField log) headerLength [])
     go true b c t = (lit≤ tt, lit≤ tt, lit≤ tt)
     go false false c t = (lit≤ tt, lit≤ tt, lit≤ tt)
     go false true true t = (lit≤ tt, lit≤ tt, lit≤ tt)

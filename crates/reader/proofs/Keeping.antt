@@ -1,22 +1,21 @@
 -- The tables hold what they should after each record: what a record that nothing is wrong with does to them.
-use Prim.Native.Nat.{ℕ, zero, suc, _+_, _-_, _*_, _≤_, _<_}
+use Prim.Native.Nat.{ℕ, _+_, _*_, _≤_, _<_}
 use native.Mathlib.Omega.{arith}
-use native.Mathlib.Numerals.{add-one}
 use mathlib.Core.Path.{_≡_, refl, sym, ap, _∙_}
 use mathlib.Core.Bool.{Bool, true, false, not}
 use mathlib.Core.List.{List, [], _∷_, _++_, map, map-append, append-nil}
 use lib.ListN.{length, take, length-append}
 use lib.Dec.{ltb, eqb, lit≤}
-use borrow.Author.Tests.{le-ltb, eqb-true, ne-eqb, eq-eqb}
+use borrow.Author.Tests.{eqb-true}
 use Rattle.reader.specs.Choice.{if_then_else_}
-use Rattle.reader.specs.Log.{maxRecords, Call, callOf, ofOthers, pendingCalls, pendingKind, valueOf, addedValues, isIn, lastTick, isCall, operations, eventFault, fault}
+use Rattle.reader.specs.Log.{maxRecords, Call, callOf, pendingCalls, pendingKind, valueOf, addedValues, isIn, lastTick, isCall, operations, eventFault, fault}
 use Rattle.reader.specs.Readable.{asks}
-use Rattle.reader.specs.Tables.{position, without, code, kindOfFound, eventFaultIn, faultIn, PendingKept, AddedKept, Room, Kept, Ended, Pushed}
+use Rattle.reader.specs.Tables.{position, without, code, eventFaultIn, faultIn, PendingKept, AddedKept, Room, Kept, Begun, Ended, Pushed}
 use Rattle.reader.specs.declared.record.Event.{Event}
 use Rattle.reader.specs.declared.record.Event.the-variants.{CallAdd, CallRemove, ReturnAdd, ReturnRemove}
 use Rattle.reader.specs.declared.record.Record.{Record}
-use Rattle.reader.specs.declared.log.Progress.{Progress}
-use Rattle.reader.proofs.Pending.{Sound, others-all, others-without, pending-sound, pending-few, kind-found, client-in, map-without, length-without}
+use Rattle.reader.specs.declared.scan.Progress.{Progress}
+use Rattle.reader.proofs.Calls.{Sound, others-all, others-without, pending-sound, pending-few, kind-found, client-in, map-without, length-without}
 
 -- what the code finds wrong is what is wrong
 pub fault-found : {past : List Record} {p : Progress} {clients codes values : List ℕ} → Kept past p clients codes values → (r : Record) → faultIn r p clients codes values ≡ fault past r
@@ -31,15 +30,11 @@ fault-found {past} {p} {clients} {codes} {values} k r =
     sound : Sound calls
     sound = pending-sound past
 
-    busy : (a b : ℕ) (t : Bool) → (if not t then a else b) ≡ (if t then b else a)
-    busy a b true = refl
-    busy a b false = refl
-
     go : (e : Event) → eventFaultIn e (r .client) (map (λ call. call .client) calls) (map code calls) (addedValues past) ≡ eventFault e (pendingKind calls (r .client)) (addedValues past)
-    go (CallAdd v) = rw (client-in (r .client) calls sound) (busy 7 (if isIn v (addedValues past) then 9 else 0) (eqb (pendingKind calls (r .client)) 0))
-    go CallRemove = rw (client-in (r .client) calls sound) (busy 7 0 (eqb (pendingKind calls (r .client)) 0))
-    go ReturnAdd = ap (λ (k : ℕ). if eqb k 1 then 0 else 8) (kind-found (r .client) calls sound)
-    go (ReturnRemove x) = ap (λ (k : ℕ). if eqb k 2 then 0 else 8) (kind-found (r .client) calls sound)
+    go (CallAdd v) = rw (client-in (r .client) calls sound) refl
+    go CallRemove = rw (client-in (r .client) calls sound) refl
+    go ReturnAdd = ap (λ (k : ℕ). if not (eqb k 1) then 8 else 0) (kind-found (r .client) calls sound)
+    go (ReturnRemove x) = ap (λ (k : ℕ). if not (eqb k 2) then 8 else 0) (kind-found (r .client) calls sound)
 
 -- a record that nothing is wrong with finds the call pending that it asks for
 pub asked : (past : List Record) (r : Record) → fault past r ≡ 0 → pendingKind (pendingCalls past) (r .client) ≡ asks (r .event)
@@ -52,11 +47,11 @@ asked past r ok = tick (ltb (r .tick) (lastTick past)) ok
     values : List ℕ
     values = addedValues past
 
-    none : (n : ℕ) (b : Bool) → eqb kind 0 ≡ b → (if b then n else 7) ≡ 0 → kind ≡ 0
+    none : (n : ℕ) (b : Bool) → eqb kind 0 ≡ b → (if not b then 7 else n) ≡ 0 → kind ≡ 0
     none n true e z = eqb-true kind 0 e
     none n false e z = absurd (omega arith)
 
-    one : (k : ℕ) (b : Bool) → eqb kind k ≡ b → _≡_ {A = ℕ} (if b then 0 else 8) 0 → kind ≡ k
+    one : (k : ℕ) (b : Bool) → eqb kind k ≡ b → _≡_ {A = ℕ} (if not b then 8 else 0) 0 → kind ≡ k
     one k true e z = eqb-true kind k e
     one k false e z = absurd (omega arith)
 
@@ -137,23 +132,19 @@ keeps-none at clients codes values lc ld lv = record {
   added = record { counted = refl; values-are = refl; values-sized = lv };
 }
 
--- a number that was put behind others, named anew
-pub pushed-as : {count x y : ℕ} {table table' : List ℕ} → x ≡ y → Pushed count x table table' → Pushed count y table table'
-pushed-as {count} {table = table} {table' = table'} e p = rw e at p
-
 module _ {past : List Record} (r : Record) where
-  pending-called : {count : ℕ} {clients codes clients' codes' : List ℕ} → PendingKept past count clients codes → (kind : ℕ)
+  pending-called : {count index : ℕ} {clients codes clients' codes' : List ℕ} → PendingKept past count clients codes → length past ≡ index → (kind : ℕ)
       → callOf (r .event) (r .client) (length past) ≡ record { client = r .client; kind = kind; index = length past } ∷ []
       → pendingKind (pendingCalls past) (r .client) ≡ 0
-      → Pushed count (r .client) clients clients' → Pushed count (length past * 4 + kind) codes codes' → PendingKept (r ∷ past) (count + 1) clients' codes'
-  pending-called {count} {clients} {codes} k kind call idle pc pd =
+      → Begun count (r .client) (index * 4 + kind) clients codes clients' codes' → PendingKept (r ∷ past) (count + 1) clients' codes'
+  pending-called {count} {clients = clients} {codes = codes} k len kind call idle b =
       let is = called past r kind call idle in
       record {
         counted = rw (is, length-append) (omega (arith, k .counted));
-        clients-are = rw (is, map-append, ← (k .clients-are)) (pc .holds);
-        codes-are = rw (is, map-append, ← (k .codes-are)) (pd .holds);
-        clients-sized = pc .sized;
-        codes-sized = pd .sized;
+        clients-are = rw (is, map-append, ← (k .clients-are)) (b .client-pushed .holds);
+        codes-are = rw (is, map-append, ← (k .codes-are), len) (b .code-pushed .holds);
+        clients-sized = b .client-pushed .sized;
+        codes-sized = b .code-pushed .sized;
       }
 
   pending-returned : {count left : ℕ} {clients codes clients' codes' : List ℕ} → PendingKept past count clients codes → (asks (r .event) ≡ 0 → ⊥)
@@ -187,24 +178,24 @@ module _ {past : List Record} (r : Record) where
   }
 
   -- all that is kept, after a record of each kind
-  module _ {p : Progress} {clients codes values clients' codes' : List ℕ} (k : Kept past p clients codes values) (ok : fault past r ≡ 0) (next : ℕ) where
-    pub keeps-add : {v : ℕ} {values' : List ℕ} → r .event ≡ CallAdd v → Pushed (p .pending) (r .client) clients clients' → Pushed (p .pending) (length past * 4 + 1) codes codes' → Pushed (p .added) v values values'
+  module _ {p : Progress} {index : ℕ} {clients codes values clients' codes' : List ℕ} (k : Kept past p clients codes values) (len : length past ≡ index) (ok : fault past r ≡ 0) (next : ℕ) where
+    pub keeps-add : {v : ℕ} {values' : List ℕ} → r .event ≡ CallAdd v → Begun (p .pending) (r .client) (index * 4 + 1) clients codes clients' codes' → Pushed (p .added) v values values'
         → Kept (r ∷ past) (record { at = next; tick = r .tick; pending = p .pending + 1; added = p .added + 1; operations = p .operations + 1 }) clients' codes' values'
     unfolding operations
-    keeps-add e pc pd pv = record {
+    keeps-add e b v = record {
       tick = refl;
       calls = rw e (omega (arith, k .calls));
-      pending = pending-called (k .pending) 1 (rw e refl) (asked past r ok ∙ ap asks e) pc pd;
-      added = added-one (k .added) (rw e refl) pv;
+      pending = pending-called (k .pending) len 1 (rw e refl) (asked past r ok ∙ ap asks e) b;
+      added = added-one (k .added) (rw e refl) v;
     }
 
-    pub keeps-remove : r .event ≡ CallRemove → Pushed (p .pending) (r .client) clients clients' → Pushed (p .pending) (length past * 4 + 2) codes codes'
+    pub keeps-remove : r .event ≡ CallRemove → Begun (p .pending) (r .client) (index * 4 + 2) clients codes clients' codes'
         → Kept (r ∷ past) (record { at = next; tick = r .tick; pending = p .pending + 1; added = p .added; operations = p .operations + 1 }) clients' codes' values
     unfolding operations
-    keeps-remove e pc pd = record {
+    keeps-remove e b = record {
       tick = refl;
       calls = rw e (omega (arith, k .calls));
-      pending = pending-called (k .pending) 2 (rw e refl) (asked past r ok ∙ ap asks e) pc pd;
+      pending = pending-called (k .pending) len 2 (rw e refl) (asked past r ok ∙ ap asks e) b;
       added = added-none (k .added) (rw e refl);
     }
 

@@ -1,8 +1,15 @@
 pub mod Bounds
+pub mod Bytes
+pub mod Calls
+pub mod Clients
+pub mod Encoding
+pub mod Examples
 pub mod Keeping
+pub mod Laws
 pub mod Lists
-pub mod Pending
+pub mod Numbers
 pub mod Readers
 pub mod Records
 pub mod Run
 pub mod Scanning
+pub mod Search

@@ -1,15 +1,15 @@
 -- How a log is read in which no record is refused: each record stands where the one before it ends, and nothing is wrong with it.
-use Prim.Native.Nat.{ℕ, zero, suc, _+_, _≤_, _<_}
+use Prim.Native.Nat.{ℕ, zero, suc, _≤_}
 use native.Mathlib.Omega.{arith}
-use mathlib.Core.Path.{_≡_, refl, sym, ap, _∙_}
-use mathlib.Core.Bool.{Bool, true, false}
+use mathlib.Core.Path.{_≡_, refl}
+use mathlib.Core.Bool.{Bool, true, false, not}
 use mathlib.Core.List.{List, [], _∷_, reverse}
 use lib.ListN.{length, getD}
 use lib.Dec.{ltb, eqb}
 use borrow.Author.Tests.{ltb-false, eqb-true}
 use Rattle.reader.specs.Choice.{if_then_else_}
 use Rattle.reader.specs.Record.{decodeAt}
-use Rattle.reader.specs.Log.{logVersion, headerLength, maxRecords, countField, Reading, readable, refused, fault, afterDecode, unlessFault, scan, readPartial}
+use Rattle.reader.specs.Log.{logVersion, headerLength, maxRecords, countField, readable, refused, fault, afterDecode, unlessFault, scan, readPartial}
 use Rattle.reader.specs.declared.record.Record.{Record}
 use Rattle.reader.specs.declared.record.Decoded.{Decoded}
 use Rattle.reader.specs.declared.record.Decoded.the-variants.{Found, Malformed}
@@ -68,7 +68,7 @@ unfolding readPartial
 reads log records e = go (ltb (length log) headerLength) (eqb (getD log 0 0) logVersion) (ltb maxRecords (countField log)) refl refl refl e
   where
     go : (a b c : Bool) → ltb (length log) headerLength ≡ a → eqb (getD log 0 0) logVersion ≡ b → ltb maxRecords (countField log) ≡ c
-        → (if a then refused 1 0 else if b then (if c then refused 3 0 else scan log (countField log) headerLength []) else refused 2 0) ≡ readable records
+        → (if a then refused 1 0 else if not b then refused 2 0 else if c then refused 3 0 else scan log (countField log) headerLength []) ≡ readable records
         → Read log records
     go true b c ta tb tc e = let z : _≡_ {A = ℕ} 0 1 = cc in absurd (omega arith)
     go false false c ta tb tc e = let z : _≡_ {A = ℕ} 0 1 = cc in absurd (omega arith)

@@ -13,15 +13,15 @@ use Rattle.reader.specs.Log.{Reading, readable, refused, headerLength, m
 use Rattle.reader.specs.Tables.{faultIn, earliestCode, Fits, Room, Kept, Admitted, Goes, Stepped, surveyed}
 use Rattle.reader.specs.declared.record.Record.{Record}
 use Rattle.reader.specs.declared.record.Decoded.the-variants.{Found, Malformed}
-use Rattle.reader.specs.declared.log.Progress.{Progress}
-use Rattle.reader.specs.declared.log.Step.{Step}
-use Rattle.reader.specs.declared.log.Step.the-variants.{Next, Stop}
-use Rattle.reader.specs.declared.log.Survey.{Survey}
-use Rattle.reader.specs.declared.log.Survey.the-variants.{Whole, Broken}
+use Rattle.reader.specs.declared.scan.Progress.{Progress}
+use Rattle.reader.specs.declared.scan.Step.{Step}
+use Rattle.reader.specs.declared.scan.Step.the-variants.{Next, Stop}
+use Rattle.reader.specs.declared.scan.Survey.{Survey}
+use Rattle.reader.specs.declared.scan.Survey.the-variants.{Whole, Broken}
 use Rattle.reader.specs.declared.log.Checked.{Checked}
 use Rattle.reader.specs.declared.log.Checked.the-variants.{Readable, Refused}
 use Rattle.reader.proofs.Keeping.{fault-found, has-room, keeps-none}
-use Rattle.reader.proofs.Pending.{pending-sound, pending-few, earliest-found}
+use Rattle.reader.proofs.Calls.{pending-sound, pending-few, earliest-found}
 
 operations-append : (rs ss : List Record) → operations (rs ++ ss) ≡ operations rs + operations ss
 unfolding operations

@@ -1,15 +1,14 @@
 -- Document 01, "The log" and "Turned down by what was handed in": what a whole log is read as. The records come one after the
 -- other; each is held against those before it, which stand here latest first; then left bytes, then 10.
 use Prim.Native.Nat.{ℕ, zero, suc, _+_}
-use mathlib.Core.Bool.{Bool, true, false}
+use mathlib.Core.Bool.{Bool, true, false, not}
 use mathlib.Core.List.{List, [], _∷_, _++_, reverse}
 use lib.ListN.{length, getD}
-use lib.Dec.{ltb, leb, eqb}
+use lib.Dec.{ltb, eqb}
 use Rattle.reader.specs.Choice.{if_then_else_}
 use Rattle.reader.specs.Number.{bigEndian, bytesOf}
 use Rattle.reader.specs.Refusal.{malformed, wrongVersion, tooManyRecords, tickFell, clientBusy, nothingCalled, addedTwice, removePending}
 use Rattle.reader.specs.Record.{encode, decodeAt}
-use Rattle.reader.specs.declared.record.Removed.{Removed}
 use Rattle.reader.specs.declared.record.Event.{Event}
 use Rattle.reader.specs.declared.record.Event.the-variants.{CallAdd, CallRemove, ReturnAdd, ReturnRemove}
 use Rattle.reader.specs.declared.record.Record.{Record}
@@ -28,10 +27,18 @@ headerLength = 3
 abbrev pub maxRecords : ℕ
 maxRecords = 1024
 
+-- n
 abbrev pub countField : List ℕ → ℕ
 countField log = bigEndian log 1 2
 
--- a pending (open) call: its client, its kind, 1 for add and 2 for remove, and the index of its record
+-- the kinds of a call
+abbrev pub addCall : ℕ
+addCall = 1
+
+abbrev pub removeCall : ℕ
+removeCall = 2
+
+-- a pending call (document 01: an open one): its client, its kind and the index of its record
 pub record Call : Type 0 where
   pub client : ℕ
   pub kind : ℕ
@@ -39,8 +46,8 @@ pub record Call : Type 0 where
 
 -- the call that a record makes, none if it is a return
 abbrev pub callOf : Event → ℕ → ℕ → List Call
-callOf (CallAdd v) client index = record { client = client; kind = 1; index = index } ∷ []
-callOf CallRemove client index = record { client = client; kind = 2; index = index } ∷ []
+callOf (CallAdd v) client index = record { client = client; kind = addCall; index = index } ∷ []
+callOf CallRemove client index = record { client = client; kind = removeCall; index = index } ∷ []
 callOf ReturnAdd client index = []
 callOf (ReturnRemove x) client index = []
 
@@ -62,8 +69,9 @@ pendingKind (call ∷ calls) client = if eqb (call .client) client then call .ki
 -- the index of the earliest pending remove, or `none` if there is none
 unfoldable pub earliestRemove : List Call → ℕ → ℕ
 earliestRemove [] none = none
-earliestRemove (call ∷ calls) none = if eqb (call .kind) 2 then call .index else earliestRemove calls none
+earliestRemove (call ∷ calls) none = if eqb (call .kind) removeCall then call .index else earliestRemove calls none
 
+-- the value that a record calls to be added, none if it calls for no add
 abbrev pub valueOf : Event → List ℕ
 valueOf (CallAdd v) = v ∷ []
 valueOf CallRemove = []
@@ -75,20 +83,22 @@ unfoldable pub addedValues : List Record → List ℕ
 addedValues [] = []
 addedValues (r ∷ past) = addedValues past ++ valueOf (r .event)
 
+-- whether a number is in a list
 unfoldable pub isIn : ℕ → List ℕ → Bool
 isIn v [] = false
 isIn v (x ∷ xs) = if eqb x v then true else isIn v xs
 
+-- the tick of the record before, 0 if there is none
 abbrev pub lastTick : List Record → ℕ
 lastTick [] = 0
 lastTick (r ∷ past) = r .tick
 
 -- 7, 8 and 9: what is wrong with an event of a client whose pending call has this kind; 0 for nothing
 unfoldable pub eventFault : Event → ℕ → List ℕ → ℕ
-eventFault (CallAdd v) pending values = if eqb pending 0 then (if isIn v values then addedTwice else 0) else clientBusy
-eventFault CallRemove pending values = if eqb pending 0 then 0 else clientBusy
-eventFault ReturnAdd pending values = if eqb pending 1 then 0 else nothingCalled
-eventFault (ReturnRemove x) pending values = if eqb pending 2 then 0 else nothingCalled
+eventFault (CallAdd v) pending values = if not (eqb pending 0) then clientBusy else if isIn v values then addedTwice else 0
+eventFault CallRemove pending values = if not (eqb pending 0) then clientBusy else 0
+eventFault ReturnAdd pending values = if not (eqb pending addCall) then nothingCalled else 0
+eventFault (ReturnRemove x) pending values = if not (eqb pending removeCall) then nothingCalled else 0
 
 -- 6 to 9: what is wrong with a record behind those before it; 0 for nothing
 unfoldable pub fault : List Record → Record → ℕ
@@ -101,6 +111,7 @@ pub data Reading : Type 0 where
   readable : List Record → Reading
   refused : ℕ → ℕ → Reading
 
+-- reading goes on behind a record that is found, and ends at one that is malformed or has a fault
 abbrev pub afterDecode : Decoded → ℕ → (Record → ℕ → Reading) → Reading
 afterDecode (Found r next) index rest = rest r next
 afterDecode (Malformed number) index rest = refused number index
@@ -119,15 +130,15 @@ scan log (suc left) at past =
 unfoldable pub readPartial : List ℕ → Reading
 readPartial log =
     if ltb (length log) headerLength then refused malformed 0 else
-    if eqb (getD log 0 0) logVersion then
-    (if ltb maxRecords (countField log) then refused tooManyRecords 0 else scan log (countField log) headerLength [])
-    else refused wrongVersion 0
+    if not (eqb (getD log 0 0) logVersion) then refused wrongVersion 0 else
+    if ltb maxRecords (countField log) then refused tooManyRecords 0 else
+    scan log (countField log) headerLength []
 
 -- the index of the earliest remove without return, or the number of records if there is none
 abbrev pub pendingRemove : List Record → ℕ
 pendingRemove records = earliestRemove (pendingCalls (reverse records)) (length records)
 
--- 10
+-- 10, the last test
 abbrev pub complete : Reading → Reading
 complete (readable records) =
     if ltb (pendingRemove records) (length records) then refused removePending (pendingRemove records) else readable records
@@ -137,6 +148,7 @@ complete (refused number index) = refused number index
 abbrev pub readLog : List ℕ → Reading
 readLog log = complete (readPartial log)
 
+-- 1 for a call, 0 for a return
 abbrev pub isCall : Event → ℕ
 isCall (CallAdd v) = 1
 isCall CallRemove = 1

@@ -1,12 +1,12 @@
 -- What holds of the records of a readable log: the facts that everything above the reader may rest on.
 -- Document 01, "The log" and "Turned down by what was handed in".
-use Prim.Native.Nat.{ℕ, suc, _+_, _≤_, _<_}
+use Prim.Native.Nat.{ℕ, _+_, _≤_, _<_}
 use mathlib.Core.Path.{_≡_}
 use mathlib.Core.List.{List, [], _∷_}
 use lib.ListN.{length, getD, take}
 use Rattle.reader.specs.Record.{kindOf, lengthOf, decodeAt}
-use Rattle.reader.specs.Log.{headerLength, maxRecords, countField, Reading, readable, refused, encodeLog}
-use Rattle.reader.specs.declared.record.Removed.{Removed}
+use Rattle.reader.specs.Log.{headerLength, maxRecords, addCall, removeCall, countField, Reading, readable, refused, fault, encodeLog}
+use Rattle.reader.specs.declared.record.Removed.the-variants.{Value, Empty}
 use Rattle.reader.specs.declared.record.Event.{Event}
 use Rattle.reader.specs.declared.record.Event.the-variants.{CallAdd, CallRemove, ReturnAdd, ReturnRemove}
 use Rattle.reader.specs.declared.record.Record.{Record}
@@ -41,13 +41,13 @@ offsetOf records i = headerLength + sizes (take i records)
 abbrev pub asks : Event → ℕ
 asks (CallAdd v) = 0
 asks CallRemove = 0
-asks ReturnAdd = 1
-asks (ReturnRemove x) = 2
+asks ReturnAdd = addCall
+asks (ReturnRemove x) = removeCall
 
 -- the kind of the call that is pending after an event: a call leaves itself, a return none, 0
 abbrev pub leaves : Event → ℕ
-leaves (CallAdd v) = 1
-leaves CallRemove = 2
+leaves (CallAdd v) = addCall
+leaves CallRemove = removeCall
 leaves ReturnAdd = 0
 leaves (ReturnRemove x) = 0
 
@@ -81,3 +81,22 @@ pub record ReadableLog (log : List ℕ) (records : List Record) : Type 0 where
   pub partial : PartialLog log records
   -- every remove has a return: its client's next record, which asks for a remove's call by `next`
   pub returned : (i : ℕ) → i < length records → recordOf records i .event ≡ CallRemove → (j : ℕ) × Next records i j
+
+-- the value of an event, 0 if it has none
+abbrev pub valueIn : Event → ℕ
+valueIn (CallAdd v) = v
+valueIn CallRemove = 0
+valueIn ReturnAdd = 0
+valueIn (ReturnRemove (Value v)) = v
+valueIn (ReturnRemove Empty) = 0
+
+-- a record whose fields fit their bytes
+pub record Small (r : Record) : Type 0 where
+  pub client : r .client < 65536
+  pub tick : r .tick < 4294967296
+  pub value : valueIn (r .event) < 4294967296
+
+-- Records that can be written behind those of the past: their fields fit, and nothing is wrong with any of them.
+pub data Writable : List Record → List Record → Type 0 where
+  none : {past : List Record} → Writable past []
+  more : {past records : List Record} {r : Record} → Small r → fault past r ≡ 0 → Writable (r ∷ past) records → Writable past (r ∷ records)

@@ -1,13 +1,13 @@
 -- Document 01, "The log": "Each record is one length byte L, then L bytes: kind (1 byte), client (2), tick (4), and for kinds 1 and 4 a value (4)."
 -- What a record is in bytes, and what stands at a position of a list of bytes.
 use Prim.Native.Nat.{ℕ, _+_, _-_}
+use mathlib.Core.Bool.{not}
 use mathlib.Core.List.{List, [], _∷_, _++_}
 use lib.ListN.{length, getD}
 use lib.Dec.{ltb, leb, eqb}
 use Rattle.reader.specs.Choice.{if_then_else_}
 use Rattle.reader.specs.Number.{bigEndian, bytesOf}
 use Rattle.reader.specs.Refusal.{malformed, unknownKind, wrongLength}
-use Rattle.reader.specs.declared.record.Removed.{Removed}
 use Rattle.reader.specs.declared.record.Removed.the-variants.{Value, Empty}
 use Rattle.reader.specs.declared.record.Event.{Event}
 use Rattle.reader.specs.declared.record.Event.the-variants.{CallAdd, CallRemove, ReturnAdd, ReturnRemove}
@@ -69,5 +69,5 @@ decodeAt bytes at =
     if ltb (length bytes - (at + 1)) (getD bytes at 0) then Malformed malformed else
     if eqb (getD bytes at 0) 0 then Malformed wrongLength else
     if eqb (lengthOf (getD bytes (at + 1) 0)) 0 then Malformed unknownKind else
-    if eqb (getD bytes at 0) (lengthOf (getD bytes (at + 1) 0)) then Found (recordAt bytes at) (at + 1 + getD bytes at 0) else
-    Malformed wrongLength
+    if not (eqb (getD bytes at 0) (lengthOf (getD bytes (at + 1) 0))) then Malformed wrongLength else
+    Found (recordAt bytes at) (at + 1 + getD bytes at 0)

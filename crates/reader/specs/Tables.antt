@@ -1,20 +1,21 @@
 -- What the code keeps of the records that it has read, in tables of numbers. What a readable log is can be understood without this file.
-use Prim.Native.Nat.{ℕ, zero, suc, _+_, _-_, _*_, _/_, _%_, _≤_, _<_}
+use Prim.Native.Nat.{ℕ, suc, _+_, _-_, _*_, _/_, _%_, _≤_, _<_}
 use mathlib.Core.Path.{_≡_}
+use mathlib.Core.Bool.{not}
 use mathlib.Core.List.{List, [], _∷_, _++_, map}
 use lib.ListN.{length, getD, take, drop}
 use lib.Dec.{ltb, eqb}
 use Rattle.reader.specs.Choice.{if_then_else_}
-use Rattle.reader.specs.Log.{maxRecords, Call, Reading, readable, refused, pendingCalls, addedValues, lastTick, operations, pendingRemove, isIn, fault, scan}
+use Rattle.reader.specs.Log.{maxRecords, addCall, removeCall, Call, Reading, readable, refused, pendingCalls, addedValues, lastTick, operations, pendingRemove, isIn, fault, scan}
 use Rattle.reader.specs.Refusal.{tickFell, clientBusy, nothingCalled, addedTwice}
 use Rattle.reader.specs.declared.record.Event.{Event}
 use Rattle.reader.specs.declared.record.Event.the-variants.{CallAdd, CallRemove, ReturnAdd, ReturnRemove}
 use Rattle.reader.specs.declared.record.Record.{Record}
-use Rattle.reader.specs.declared.log.Progress.{Progress}
-use Rattle.reader.specs.declared.log.Step.{Step}
-use Rattle.reader.specs.declared.log.Step.the-variants.{Next, Stop}
-use Rattle.reader.specs.declared.log.Survey.{Survey}
-use Rattle.reader.specs.declared.log.Survey.the-variants.{Whole, Broken}
+use Rattle.reader.specs.declared.scan.Progress.{Progress}
+use Rattle.reader.specs.declared.scan.Step.{Step}
+use Rattle.reader.specs.declared.scan.Step.the-variants.{Next, Stop}
+use Rattle.reader.specs.declared.scan.Survey.{Survey}
+use Rattle.reader.specs.declared.scan.Survey.the-variants.{Whole, Broken}
 
 -- the index of the first x in a list, or its length
 unfoldable pub position : ℕ → List ℕ → ℕ
@@ -37,7 +38,7 @@ kindOfFound client clients codes =
 -- the index of the earliest pending remove, as the codes have it
 unfoldable pub earliestCode : List ℕ → ℕ → ℕ
 earliestCode [] none = none
-earliestCode (c ∷ cs) none = if eqb (c % 4) 2 then c / 4 else earliestCode cs none
+earliestCode (c ∷ cs) none = if eqb (c % 4) removeCall then c / 4 else earliestCode cs none
 
 -- A table has as many entries as a log may have records, of which the first `count` are in use.
 pub record Fits (count : ℕ) (table : List ℕ) : Type 0 where
@@ -83,13 +84,18 @@ pub record Kept (past : List Record) (p : Progress) (clients codes values : List
 abbrev pub eventFaultIn : Event → ℕ → List ℕ → List ℕ → List ℕ → ℕ
 eventFaultIn (CallAdd v) client clients codes values = if isIn client clients then clientBusy else if isIn v values then addedTwice else 0
 eventFaultIn CallRemove client clients codes values = if isIn client clients then clientBusy else 0
-eventFaultIn ReturnAdd client clients codes values = if eqb (kindOfFound client clients codes) 1 then 0 else nothingCalled
-eventFaultIn (ReturnRemove x) client clients codes values = if eqb (kindOfFound client clients codes) 2 then 0 else nothingCalled
+eventFaultIn ReturnAdd client clients codes values = if not (eqb (kindOfFound client clients codes) addCall) then nothingCalled else 0
+eventFaultIn (ReturnRemove x) client clients codes values = if not (eqb (kindOfFound client clients codes) removeCall) then nothingCalled else 0
 
 unfoldable pub faultIn : Record → Progress → List ℕ → List ℕ → List ℕ → ℕ
 faultIn r p clients codes values =
     if ltb (r .tick) (p .tick) then tickFell else
     eventFaultIn (r .event) (r .client) (take (p .pending) clients) (take (p .pending) codes) (take (p .added) values)
+
+-- A call of the client, with this code, stands behind those that were pending.
+pub record Begun (count client code : ℕ) (clients codes clients' codes' : List ℕ) : Type 0 where
+  pub client-pushed : Pushed count client clients clients'
+  pub code-pushed : Pushed count code codes codes'
 
 -- The client's pending call, if it has one, is taken out of the tables, and `left` of them are left.
 pub record Ended (count client : ℕ) (clients codes : List ℕ) (left : ℕ) (clients' codes' : List ℕ) : Type 0 where

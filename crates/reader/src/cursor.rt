@@ -18,7 +18,7 @@ pub struct Advance {
 }
 
 // The work of `next`, on slice and number.
-pub fn step_at(log: &[u8], at: usize) -> Advance
+fn step_at(log: &[u8], at: usize) -> Advance
     ensures { λ s. ⌜ (s .decoded ≡ decodeAt (now (log .entry)) at) × (s .at ≡ behind (decodeAt (now (log .entry)) at) at) ⌝ }
 {
     match decode_at(log, at) {

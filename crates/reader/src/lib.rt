@@ -1,7 +1,9 @@
-// The log format: one record, a whole log, refusals 1 to 10.
+// The log format of document 01: one record, a whole log, refusals 1 to 10.
 pub mod cursor;
 pub mod log;
-pub mod number;
+mod number;
+mod pending;
 pub mod record;
 pub mod refusal;
+mod scan;
 mod table;

@@ -31,5 +31,5 @@ pub fn be32(s: &[u8], at: usize) -> u32
     requires { ⌜ at + 4 ≤ length (now s) ⌝ }
     ensures { λ r. ⌜ r ≡ bigEndian (now (s .entry)) at 4 ⌝ }
 {
-    ((wide(s[at]) * 256 + wide(s[at + 1])) * 256 + wide(s[at + 2])) * 256 + wide(s[at + 3])
+    (be16(s, at) as u32) * 65536 + (be16(s, at + 2) as u32)
 }

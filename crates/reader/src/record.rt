@@ -37,7 +37,7 @@ pub enum Decoded {
 }
 
 // The length that belongs to a kind; 0 for an unknown kind.
-pub fn length_of(kind: u8) -> u8
+fn length_of(kind: u8) -> u8
     ensures { λ r. ⌜ r ≡ lengthOf kind ⌝ }
 {
     match kind {

@@ -1,12 +1,16 @@
-// Tables of numbers of which the first `count` are in use: a search, and a removal that keeps the sequence.
+// Tables of numbers, with an entry for each record that a log may have, of which the first `count` are in use: searches, and
+// an entry put in at the end or taken out. What they hold is said by lists, in specs/Tables.antt.
 ghost use mathlib.Core.Path.{_≡_};
 ghost use Prim.Native.Nat.{_-_, _<_};
 ghost use lib.ListN.{length, take};
 ghost use Rattle.reader.specs.Log.{maxRecords, isIn};
 ghost use Rattle.reader.specs.Tables.{Fits, Pushed, position, without};
+use crate::log::MAX_RECORDS;
+
+pub type Table = [u32; MAX_RECORDS];
 
 // Whether x is in the table. The loop runs to the end, so that it is done several entries at a time.
-pub fn contains(table: &[u32; 1024], count: usize, x: u32) -> bool
+pub fn contains(table: &Table, count: usize, x: u32) -> bool
     requires { ⌜ Fits count (now table) ⌝ }
     ensures { λ r. ⌜ r ≡ isIn x (take count (now (table .entry))) ⌝ }
 {
@@ -22,7 +26,7 @@ pub fn contains(table: &[u32; 1024], count: usize, x: u32) -> bool
 }
 
 // The index of the first x, or `count` where there is none.
-pub fn find(table: &[u32; 1024], count: usize, x: u32) -> usize
+pub fn find(table: &Table, count: usize, x: u32) -> usize
     requires { ⌜ Fits count (now table) ⌝ }
     ensures { λ r. ⌜ r ≡ position x (take count (now (table .entry))) ⌝ }
 {
@@ -37,7 +41,7 @@ pub fn find(table: &[u32; 1024], count: usize, x: u32) -> usize
 }
 
 // Puts x behind the entries in use.
-pub fn push(table: &mut [u32; 1024], count: usize, x: u32)
+pub fn push(table: &mut Table, count: usize, x: u32)
     requires { ⌜ (count < maxRecords) × (length (now table) ≡ maxRecords) ⌝ }
     ensures { λ _. ⌜ Pushed count x (now (table .entry)) (now (table .exit)) ⌝ }
 {
@@ -45,7 +49,7 @@ pub fn push(table: &mut [u32; 1024], count: usize, x: u32)
 }
 
 // Takes out the entry at an index, and moves those behind it up.
-pub fn remove(table: &mut [u32; 1024], count: usize, index: usize)
+pub fn remove(table: &mut Table, count: usize, index: usize)
     requires { ⌜ (index < count) × Fits count (now table) ⌝ }
     ensures { λ _. ⌜ (take (count - 1) (now (table .exit)) ≡ without index (take count (now (table .entry)))) × (length (now (table .exit)) ≡ maxRecords) ⌝ }
 {

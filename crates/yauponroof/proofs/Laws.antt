@@ -1,14 +1,13 @@
 -- What a C caller takes out of an answer is what was put in: the high 32 bits are 0 if the call was accepted, else the
 -- refusal's number; the low 32 bits are what the call returns, or the refusal's record index.
-use Prim.Native.Nat.{ℕ, _+_, _*_, _/_, _%_, _≤_, _<_}
+use Prim.Native.Nat.{ℕ, _/_, _%_, _≤_}
 use native.Mathlib.Omega.{arith}
-use mathlib.Core.Path.{_≡_, refl, ap}
+use mathlib.Core.Path.{_≡_}
 use mathlib.Core.List.{List}
 use Rattle.reader.specs.Log.{Reading, readable, refused, readLog, checked, operations}
 use Rattle.reader.specs.Readable.{Within}
 use Rattle.reader.specs.declared.record.Record.{Record}
-use Rattle.reader.specs.declared.log.Checked.{Checked}
-use Rattle.reader.specs.declared.log.Checked.the-variants.{Readable, Refused}
+use Rattle.reader.specs.declared.log.Checked.the-variants.{Refused}
 use Rattle.reader.proofs.Bounds.{log-within}
 use Rattle.reader.proofs.Keeping.{operations-few}
 use Rattle.yauponroof.specs.Answer.{refusalUnit, answerOf}

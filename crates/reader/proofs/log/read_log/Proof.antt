@@ -1,46 +1,34 @@
+-- `read_log` meets its contract: at each return the tests that led there say which case of `readPartial` holds.
 use Rattle.reader.specs.Log.{readPartial}
 use borrow.Author.Tests.{lt-ltb, le-ltb, eq-eqb, ne-eqb}
-use mathlib.Core.Path.{_≡_, sym, ap, _∙_}
 use borrow.Author.Needs.{needs}
 use Rattle.reader.proofs.log.read_log.Statement.{statement}
 use Rattle.reader.proofs.log.read_log.Tie as tie
-use Rattle.reader.proofs.log.read_log.Reads as reads
-use Rattle.reader.proofs.log.read_log.Lts as lts
-use Rattle.reader.proofs.log.read_records.Reads as read-records-reads
-use Rattle.reader.proofs.number.be16.Reads as be16-reads
 
--- src/log.rt:293:9
 returns : tie.Need-returns
 unfolding readPartial
 returns c = rw (lt-ltb _ _ (c .if1 .taken))
 
--- src/log.rt:298:8
 shared-slice-read-if2 : tie.Need-shared-slice-read-if2
 shared-slice-read-if2 c = search needs
 
--- src/log.rt:299:9
 returns-2 : tie.Need-returns-2
 unfolding readPartial
 returns-2 c = rw (le-ltb _ _ (c .before .before .if1 .left), ne-eqb _ _ (c .if2 .taken))
 
--- src/log.rt:304:17
 be16-requires : tie.Need-be16-requires
 be16-requires c κs = search needs
 
--- src/log.rt:304:17
 cast-count : tie.Need-cast-count
 cast-count c = search needs
 
--- src/log.rt:306:9
 returns-3 : tie.Need-returns-3
 unfolding readPartial
 returns-3 c = rw (le-ltb _ _ (c .before .before .before .before .if1 .left), eq-eqb _ _ (c .before .before .if2 .left), ← (c .before .be16 .ensures), lt-ltb _ _ (c .if3 .taken))
 
--- src/log.rt:311:5
 read-records-requires : tie.Need-read-records-requires
 read-records-requires c κs = search needs
 
--- src/log.rt:289:1
 returns-4 : tie.Need-returns-4
 unfolding readPartial
 returns-4 c = rw (le-ltb _ _ (c .before .before .before .before .before .if1 .left), eq-eqb _ _ (c .before .before .before .if2 .left), ← (c .before .before .be16 .ensures), le-ltb _ _ (c .before .if3 .left)) (c .read-records .ensures)

@@ -1,46 +1,35 @@
+-- `be16` meets its contract: the sum is the definition's, with its first position `at + 0`.
 use Rattle.reader.specs.Number.{bigEndian}
 use native.Mathlib.Nat.{add-zero}
 use native.Mathlib.Omega.{arith}
 use borrow.Author.Needs.{needs}
 use Rattle.reader.proofs.number.be16.Statement.{statement}
 use Rattle.reader.proofs.number.be16.Tie as tie
-use Rattle.reader.proofs.number.be16.Reads as reads
-use Rattle.reader.proofs.number.be16.Lts as lts
-use Rattle.reader.proofs.number.wide.Reads as wide-reads
 
--- src/number.rt:19:11
 shared-slice-read-wide : tie.Need-shared-slice-read-wide
 shared-slice-read-wide c = search needs
 
--- src/number.rt:19:6
 wide-requires : tie.Need-wide-requires
 wide-requires c κs = search needs
 
--- src/number.rt:19:6
 mul-result : tie.Need-mul-result
 mul-result c = search needs
 
--- src/number.rt:19:33
 add-wide : tie.Need-add-wide
 add-wide c = search needs
 
--- src/number.rt:19:31
 shared-slice-read-wide-2 : tie.Need-shared-slice-read-wide-2
 shared-slice-read-wide-2 c = search needs
 
--- src/number.rt:19:26
 wide-requires-2 : tie.Need-wide-requires-2
 wide-requires-2 c κs = search needs
 
--- src/number.rt:19:6
 add-result : tie.Need-add-result
 add-result c = search needs
 
--- src/number.rt:19:5
 cast-result : tie.Need-cast-result
 cast-result c = search needs
 
--- src/number.rt:15:1
 returns : tie.Need-returns
 unfolding bigEndian
 returns c = simp add-zero (omega arith)

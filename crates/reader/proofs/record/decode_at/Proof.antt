@@ -1,97 +1,73 @@
+-- `decode_at` meets its contract: at each return the tests that led there say which case of `decodeAt` holds. A known kind
+-- is long enough for the client and the tick to be read.
 use Rattle.reader.proofs.Records.{length-least}
-use Rattle.reader.specs.Record.{lengthOf, decodeAt}
-use Prim.Native.Nat.{ℕ}
-use mathlib.Core.Path.{ap, sym, _∙_}
+use Rattle.reader.specs.Record.{decodeAt}
+use mathlib.Core.Path.{sym, _∙_}
 use native.Mathlib.Omega.{arith}
 use borrow.Author.Tests.{le-leb, lt-leb, lt-ltb, le-ltb, eq-eqb, ne-eqb}
 use borrow.Author.Needs.{needs}
 use Rattle.reader.proofs.record.decode_at.Statement.{statement}
 use Rattle.reader.proofs.record.decode_at.Tie as tie
-use Rattle.reader.proofs.record.decode_at.Reads as reads
-use Rattle.reader.proofs.record.decode_at.Lts as lts
-use Rattle.reader.proofs.number.be16.Reads as be16-reads
-use Rattle.reader.proofs.number.be32.Reads as be32-reads
-use Rattle.reader.proofs.record.event_at.Reads as event-at-reads
-use Rattle.reader.proofs.record.length_of.Reads as length-of-reads
 
--- src/record.rt:72:9
 returns : tie.Need-returns
 unfolding decodeAt
 returns c = simp (le-leb _ _ (c .if1 .taken))
 
--- src/record.rt:74:17
 add-start : tie.Need-add-start
 add-start c = search needs
 
--- src/record.rt:75:18
 shared-slice-read-length : tie.Need-shared-slice-read-length
 shared-slice-read-length c = search needs
 
--- src/record.rt:76:8
 sub-if2 : tie.Need-sub-if2
 sub-if2 c = search needs
 
--- src/record.rt:76:28
 cast-if2 : tie.Need-cast-if2
 cast-if2 c = omega (arith, c .shared-slice-known2 .given (c .before .before .before .args .at))
 
--- src/record.rt:77:9
 returns-2 : tie.Need-returns-2
 unfolding decodeAt
 returns-2 c = simp (lt-leb _ _ (c .before .before .if1 .left), lt-ltb _ _ (c .if2 .taken))
 
--- src/record.rt:80:9
 returns-3 : tie.Need-returns-3
 unfolding decodeAt
 returns-3 c = simp (lt-leb _ _ (c .before .before .before .if1 .left), le-ltb _ _ (c .before .if2 .left), eq-eqb _ _ (c .if3 .taken))
 
--- src/record.rt:82:16
 shared-slice-read-kind : tie.Need-shared-slice-read-kind
 shared-slice-read-kind c = search needs
 
--- src/record.rt:83:9
 length-of-requires : tie.Need-length-of-requires
 length-of-requires c κs = search needs
 
--- src/record.rt:85:9
 returns-4 : tie.Need-returns-4
 unfolding decodeAt
 returns-4 c = simp (lt-leb _ _ (c .before .before .before .before .before .before .if1 .left), le-ltb _ _ (c .before .before .before .before .if2 .left), ne-eqb _ _ (c .before .before .before .if3 .left), eq-eqb _ _ (sym (c .before .length-of .ensures) ∙ c .if4 .taken))
 
--- src/record.rt:88:9
 returns-5 : tie.Need-returns-5
 unfolding decodeAt
 returns-5 c = simp (lt-leb _ _ (c .before .before .before .before .before .before .before .if1 .left), le-ltb _ _ (c .before .before .before .before .before .if2 .left), ne-eqb _ _ (c .before .before .before .before .if3 .left), ne-eqb _ _ (λ e. c .before .if4 .left (c .before .before .length-of .ensures ∙ e)), ne-eqb _ _ (λ e. c .if5 .taken (e ∙ sym (c .before .before .length-of .ensures))))
 
--- src/record.rt:90:28
 add-be16 : tie.Need-add-be16
 add-be16 c = search needs
 
--- src/record.rt:90:9
 be16-requires : tie.Need-be16-requires
 be16-requires c κs = omega (arith, length-least _ (λ e. c .before .if4 .left (c .before .before .length-of .ensures ∙ e)))
 
--- src/record.rt:91:26
 add-be32 : tie.Need-add-be32
 add-be32 c = search needs
 
--- src/record.rt:91:9
 be32-requires : tie.Need-be32-requires
 be32-requires c κs = omega (arith, length-least _ (λ e. c .before .before .if4 .left (c .before .before .before .length-of .ensures ∙ e)))
 
--- src/record.rt:92:9
 event-at-requires : tie.Need-event-at-requires
 event-at-requires c κs = search needs
 
--- src/record.rt:99:23
 cast-t10 : tie.Need-cast-t10
 cast-t10 c = search needs
 
--- src/record.rt:99:15
 add-t14 : tie.Need-add-t14
 add-t14 c = search needs
 
--- src/record.rt:68:1
 returns-6 : tie.Need-returns-6
 unfolding decodeAt
 returns-6 c = let b = c .before .before .before in

@@ -1,6 +1,6 @@
+-- `event_at` meets its contract: each arm is a case of `eventOf`, and the lengths of kinds 1 and 4 leave room for a value.
 use Rattle.reader.specs.Record.{lengthOf, eventOf}
 use Rattle.reader.specs.declared.record.Event.the-variants.{CallAdd, ReturnRemove}
-use Rattle.reader.specs.declared.record.Event.{Event}
 use Rattle.reader.specs.declared.record.Removed.the-variants.{Value}
 use Prim.Native.Nat.{ℕ}
 use mathlib.Core.Path.{ap}
@@ -9,49 +9,37 @@ use borrow.Author.Tests.{ne-eqb}
 use borrow.Author.Needs.{needs}
 use Rattle.reader.proofs.record.event_at.Statement.{statement}
 use Rattle.reader.proofs.record.event_at.Tie as tie
-use Rattle.reader.proofs.record.event_at.Reads as reads
-use Rattle.reader.proofs.record.event_at.Lts as lts
-use Rattle.reader.proofs.number.be32.Reads as be32-reads
 
--- src/record.rt:59:39
 add-be32 : tie.Need-add-be32
 add-be32 c = search needs
 
--- src/record.rt:59:29
 be32-requires : tie.Need-be32-requires
 unfolding lengthOf
 be32-requires c κs = omega (arith, ap lengthOf (c .match .keys1))
 
--- src/record.rt:62:59
 add-be32-2 : tie.Need-add-be32-2
 add-be32-2 c = search needs
 
--- src/record.rt:62:49
 be32-requires-2 : tie.Need-be32-requires-2
 unfolding lengthOf
 be32-requires-2 c κs = omega (arith, ap lengthOf (c .match .keys4))
 
--- src/record.rt:54:1
 returns : tie.Need-returns
 unfolding eventOf
 returns c = rw (c .before .match .keys1) (ap CallAdd (c .be32 .ensures))
 
--- src/record.rt:54:1
 returns-2 : tie.Need-returns-2
 unfolding eventOf
 returns-2 c = rw (c .match .keys2)
 
--- src/record.rt:54:1
 returns-3 : tie.Need-returns-3
 unfolding eventOf
 returns-3 c = rw (c .match .keys3)
 
--- src/record.rt:54:1
 returns-4 : tie.Need-returns-4
 unfolding eventOf
 returns-4 c = rw (c .before .match .keys4) (ap (λ (v : ℕ). ReturnRemove (Value v)) (c .be322 .ensures))
 
--- src/record.rt:54:1
 returns-5 : tie.Need-returns-5
 unfolding eventOf
 returns-5 c = let r = c .match .rest in

@@ -1,36 +1,29 @@
+-- `length_of` meets its contract: each arm is a case of `lengthOf`.
 use Rattle.reader.specs.Record.{lengthOf}
 use borrow.Author.Tests.{ne-eqb}
 use Rattle.reader.proofs.record.length_of.Statement.{statement}
 use Rattle.reader.proofs.record.length_of.Tie as tie
-use Rattle.reader.proofs.record.length_of.Reads as reads
-use Rattle.reader.proofs.record.length_of.Lts as lts
 
--- src/record.rt:40:1
 returns : tie.Need-returns
 unfolding lengthOf
 returns c = rw (c .match .keys1)
 
--- src/record.rt:40:1
 returns-2 : tie.Need-returns-2
 unfolding lengthOf
 returns-2 c = rw (c .match .keys2)
 
--- src/record.rt:40:1
 returns-3 : tie.Need-returns-3
 unfolding lengthOf
 returns-3 c = rw (c .match .keys3)
 
--- src/record.rt:40:1
 returns-4 : tie.Need-returns-4
 unfolding lengthOf
 returns-4 c = rw (c .match .keys4)
 
--- src/record.rt:40:1
 returns-5 : tie.Need-returns-5
 unfolding lengthOf
 returns-5 c = rw (c .match .keys5)
 
--- src/record.rt:40:1
 returns-6 : tie.Need-returns-6
 unfolding lengthOf
 returns-6 c = let r = c .match .rest in

@@ -1,20 +1,13 @@
-use Rattle.reader.specs.Choice.{if_then_else_}
-use mathlib.Core.Bool.{Bool, true, false}
-use lib.ListN.{getD}
-use lib.Dec.{eqb}
-use borrow.Author.Tests.{eq-eqb, ne-eqb}
+-- `contains` meets its contract. The loop's invariant: whether x was found is whether it is among the first i entries.
 use Rattle.reader.proofs.Lists.{isIn-hit, isIn-miss}
 use Rattle.reader.specs.Log.{isIn}
-use borrow.Author.Needs.{needs}
 use lib.ListN.{length, take}
 use mathlib.Core.Logic.{⊎-elim}
-use mathlib.Core.Path.{_≡_, refl, sym, ap, _∙_}
+use mathlib.Core.Path.{_≡_, refl, ap, _∙_}
 use native.Mathlib.Omega.{arith}
 use Prim.Native.Nat.{ℕ, _-_, _≤_, _<_}
 use Rattle.reader.proofs.table.contains.Statement.{statement}
 use Rattle.reader.proofs.table.contains.Tie as tie
-use Rattle.reader.proofs.table.contains.Reads as reads
-use Rattle.reader.proofs.table.contains.Lts as lts
 
 abbrev Inv-loop : tie.InvT-loop
 Inv-loop table count x found₀ i₀ found i = (i ≤ count) × (found ≡ isIn x (take i table))
@@ -22,28 +15,22 @@ Inv-loop table count x found₀ i₀ found i = (i ≤ count) × (found ≡ isIn 
 abbrev μ-loop : tie.MeasureT-loop
 μ-loop table count x found₀ i₀ found i = count - i
 
--- src/table.rt:15:5
 loop-holds : tie.Need-loop-holds Inv-loop μ-loop
 unfolding isIn
 loop-holds c = (omega arith, refl)
 
--- src/table.rt:16:12
 mul-if1 : tie.Need-mul-if1 Inv-loop μ-loop
 mul-if1 c = omega arith
 
--- src/table.rt:16:12
 element-copy-out-if1 : tie.Need-element-copy-out-if1 Inv-loop μ-loop
 element-copy-out-if1 c = omega arith
 
--- src/table.rt:19:9
 add-i : tie.Need-add-i Inv-loop μ-loop
 add-i c = omega arith
 
--- src/table.rt:15:5
 loop-less : tie.Need-loop-less Inv-loop μ-loop
 loop-less c = omega arith
 
--- src/table.rt:15:5
 loop-again : tie.Need-loop-again Inv-loop μ-loop
 loop-again c = let s = c .before .before .before .before in
     let i = c .before .before .before .loop .i in
@@ -51,7 +38,6 @@ loop-again c = let s = c .before .before .before .before in
     ⊎-elim (λ w. (omega arith, w .1 ∙ isIn-hit (s .args .x) (s .args .table .now) i below (w .0 .taken)))
     (λ w. (omega arith, w .1 ∙ (c .before .before .before .loop .inv .1 ∙ isIn-miss (s .args .x) (s .args .table .now) i below (w .0 .left)))) (c .if1 .came)
 
--- src/table.rt:9:1
 returns : tie.Need-returns Inv-loop μ-loop
 returns c = let s = c .before .before in
     let all : c .before .loop .i ≡ s .args .count = omega arith in

@@ -1,14 +1,12 @@
+-- `find` meets its contract. The loop's invariant: the place of x among the entries from i on, behind i others, is its place.
 use Rattle.reader.proofs.Lists.{position-hit, position-miss, position-none}
 use Rattle.reader.specs.Tables.{position}
-use lib.Seq.{length-take-le, getD-take}
-use lib.ListN.{length, take, drop, getD}
-use mathlib.Core.Path.{_≡_, refl, sym, ap, _∙_}
+use lib.ListN.{take, drop}
+use mathlib.Core.Path.{_≡_, ap}
 use native.Mathlib.Omega.{arith}
-use Prim.Native.Nat.{ℕ, _+_, _-_, _≤_, _<_}
+use Prim.Native.Nat.{ℕ, _+_, _-_, _≤_}
 use Rattle.reader.proofs.table.find.Statement.{statement}
 use Rattle.reader.proofs.table.find.Tie as tie
-use Rattle.reader.proofs.table.find.Reads as reads
-use Rattle.reader.proofs.table.find.Lts as lts
 
 abbrev Inv-loop : tie.InvT-loop
 Inv-loop table count x i₀ i = (i ≤ count) × (i + position x (drop i (take count table)) ≡ position x (take count table))
@@ -16,37 +14,29 @@ Inv-loop table count x i₀ i = (i ≤ count) × (i + position x (drop i (take c
 abbrev μ-loop : tie.MeasureT-loop
 μ-loop table count x i₀ i = count - i
 
--- src/table.rt:30:5
 loop-holds : tie.Need-loop-holds Inv-loop μ-loop
 loop-holds c = (omega arith, omega arith)
 
--- src/table.rt:31:12
 mul-if1 : tie.Need-mul-if1 Inv-loop μ-loop
 mul-if1 c = omega arith
 
--- src/table.rt:31:12
 element-copy-out-if1 : tie.Need-element-copy-out-if1 Inv-loop μ-loop
 element-copy-out-if1 c = omega arith
 
--- src/table.rt:32:13
 returns : tie.Need-returns Inv-loop μ-loop
 returns c = let s = c .before .before .before .before in
     omega (arith, position-hit (s .args .table .now) (s .args .count) (omega arith) (s .args .x) (c .before .before .before .loop .i) (omega arith) (c .if1 .taken))
 
--- src/table.rt:34:9
 add-i : tie.Need-add-i Inv-loop μ-loop
 add-i c = omega arith
 
--- src/table.rt:30:5
 loop-less : tie.Need-loop-less Inv-loop μ-loop
 loop-less c = omega arith
 
--- src/table.rt:30:5
 loop-again : tie.Need-loop-again Inv-loop μ-loop
 loop-again c = let s = c .before .before .before .before in
     (omega arith, omega (arith, position-miss (s .args .table .now) (s .args .count) (omega arith) (s .args .x) (c .before .before .before .loop .i) (omega arith) (c .if1 .left)))
 
--- src/table.rt:25:1
 returns-2 : tie.Need-returns-2 Inv-loop μ-loop
 returns-2 c = let s = c .before .before in
     let all : c .before .loop .i ≡ s .args .count = omega arith in

@@ -1,16 +1,15 @@
+-- `remove` meets its contract. The loop's invariant: the entries before i and those behind it are what is to be left.
 use lib.Seq.{take-take}
 use Rattle.reader.proofs.Lists.{shift-step, shift-end}
 use Rattle.reader.specs.Tables.{without}
 use Rattle.reader.specs.Log.{maxRecords}
-use lib.ListN.{length, take, drop, getD, length-set}
+use lib.ListN.{length, take, drop, length-set}
 use mathlib.Core.List.{_++_}
-use mathlib.Core.Path.{_≡_, refl, sym, ap, _∙_}
+use mathlib.Core.Path.{_≡_, refl, sym, _∙_}
 use native.Mathlib.Omega.{arith}
-use Prim.Native.Nat.{ℕ, suc, _+_, _-_, _≤_, _<_}
+use Prim.Native.Nat.{suc, _-_, _≤_, _<_}
 use Rattle.reader.proofs.table.remove.Statement.{statement}
 use Rattle.reader.proofs.table.remove.Tie as tie
-use Rattle.reader.proofs.table.remove.Reads as reads
-use Rattle.reader.proofs.table.remove.Lts as lts
 
 abbrev Inv-loop : tie.InvT-loop
 Inv-loop table₀ count index i₀ table i = (length table ≡ maxRecords) × (index ≤ i) × (i < count) × (take i table ++ drop (suc i) (take count table) ≡ without index (take count table₀))
@@ -18,51 +17,40 @@ Inv-loop table₀ count index i₀ table i = (length table ≡ maxRecords) × (i
 abbrev μ-loop : tie.MeasureT-loop
 μ-loop table₀ count index i₀ table i = count - i
 
--- src/table.rt:45:5
 loop-holds : tie.Need-loop-holds Inv-loop μ-loop
 loop-holds c = let a = c .args in
     (omega arith, omega arith, omega arith, rw (take-take (a .index) (a .count) (a .table .now) (omega arith)) refl)
 
--- src/table.rt:45:15
 sub-loop : tie.Need-sub-loop Inv-loop μ-loop
 sub-loop c = omega arith
 
--- src/table.rt:46:26
 add-table : tie.Need-add-table Inv-loop μ-loop
 add-table c = omega arith
 
--- src/table.rt:46:20
 mul-table : tie.Need-mul-table Inv-loop μ-loop
 mul-table c = omega arith
 
--- src/table.rt:46:20
 element-copy-out-table : tie.Need-element-copy-out-table Inv-loop μ-loop
 element-copy-out-table c = omega arith
 
--- src/table.rt:46:9
 mul-table-2 : tie.Need-mul-table-2 Inv-loop μ-loop
 mul-table-2 c = omega arith
 
--- src/table.rt:46:9
 element-write-table : tie.Need-element-write-table Inv-loop μ-loop
 element-write-table c = omega arith
 
--- src/table.rt:47:9
 add-i : tie.Need-add-i Inv-loop μ-loop
 add-i c = omega arith
 
--- src/table.rt:45:5
 loop-less : tie.Need-loop-less Inv-loop μ-loop
 loop-less c = omega arith
 
--- src/table.rt:45:5
 loop-again : tie.Need-loop-again Inv-loop μ-loop
 loop-again c = let t = c .before .before .loop .table in
     let count = c .before .before .before .args .count in
     let i = c .before .before .loop .i in
     (simp length-set (omega arith), omega arith, omega arith, shift-step t count i (omega arith) (omega arith) ∙ c .before .before .loop .inv .3)
 
--- src/table.rt:40:1
 returns : tie.Need-returns Inv-loop μ-loop
 returns c = let t = c .before .loop .table in
     let count = c .before .before .args .count in

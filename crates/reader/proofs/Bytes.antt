@@ -1,0 +1,183 @@
+-- What stands in a log, byte by byte: each record where the ones before it end, and the log made of their bytes.
+use Prim.Native.Nat.{ℕ, suc, _+_, _-_, _≤_, _<_}
+use native.Mathlib.Omega.{arith}
+use native.Mathlib.Nat.{eq-or-lt-of-le}
+use mathlib.Core.Path.{_≡_, refl, sym, ap, _∙_, subst}
+use mathlib.Core.Logic.{_⊎_, inl, inr}
+use mathlib.Core.Bool.{Bool, true, false, not}
+use mathlib.Core.List.{List, [], _∷_, _++_, reverse, reverse-cons, append-assoc, append-nil}
+use lib.ListN.{length, getD, take, drop, length-append, length-reverse, List·getD-append}
+use lib.Seq.{take-add, take-length, take-append-le, take-append-seam, take-append-add, drop-cons, drop-drop, getD-append-seam}
+use lib.Dec.{ltb, leb, eqb}
+use borrow.Author.Tests.{leb-false, ltb-false, eqb-true, eqb-false}
+use Rattle.reader.specs.Choice.{if_then_else_}
+use Rattle.reader.specs.Number.{bigEndian, bytesOf}
+use Rattle.reader.specs.Record.{kindOf, lengthOf, eventOf, encode, recordAt, decodeAt}
+use Rattle.reader.specs.Log.{logVersion, headerLength, maxRecords, countField, encodeAll, encodeLog}
+use Rattle.reader.specs.Readable.{Bytes, recordOf, sizeOf, sizes, offsetOf}
+use Rattle.reader.specs.declared.record.Record.{Record}
+use Rattle.reader.specs.declared.record.Decoded.the-variants.{Found, Malformed}
+use Rattle.reader.proofs.Numbers.{number-back}
+use Rattle.reader.proofs.Records.{kind-back, event-least, value-fills}
+use Rattle.reader.proofs.Run.{Run, done, more, Read}
+
+-- a record stands at a position: its bytes are there, its fields are those bytes, and the next position is where it ends
+pub record Stood (log : List ℕ) (at : ℕ) (r : Record) (next : ℕ) : Type 0 where
+  pub inside : at < length log
+  pub fits : at + sizeOf r ≤ length log
+  pub long : getD log at 0 ≡ lengthOf (kindOf (r .event))
+  pub kind : getD log (at + 1) 0 ≡ kindOf (r .event)
+  pub client : r .client ≡ bigEndian log (at + 2) 2
+  pub tick : r .tick ≡ bigEndian log (at + 4) 4
+  pub event : r .event ≡ eventOf (kindOf (r .event)) (bigEndian log (at + 8) 4)
+  pub ends : next ≡ at + sizeOf r
+
+-- a record that is found stands there
+pub decode-inverts : (log : List ℕ) (at : ℕ) {r : Record} {next : ℕ} → decodeAt log at ≡ Found r next → Stood log at r next
+unfolding decodeAt
+decode-inverts log at {r} {next} e =
+    go (leb (length log) at) (ltb (length log - (at + 1)) (getD log at 0)) (eqb (getD log at 0) 0) (eqb (lengthOf kind) 0) (eqb (getD log at 0) (lengthOf kind)) refl refl refl refl e
+  where
+    kind : ℕ
+    kind = getD log (at + 1) 0
+
+    never : {number : ℕ} → Malformed number ≡ Found r next → Stood log at r next
+    never e = let z : _≡_ {A = ℕ} 0 1 = cc in absurd (omega arith)
+
+    go : (a b c d e : Bool) → leb (length log) at ≡ a → ltb (length log - (at + 1)) (getD log at 0) ≡ b → eqb (lengthOf kind) 0 ≡ d → eqb (getD log at 0) (lengthOf kind) ≡ e
+        → (if a then Malformed 1 else if b then Malformed 1 else if c then Malformed 5 else if d then Malformed 4 else if not e then Malformed 5 else Found (recordAt log at) (at + 1 + getD log at 0)) ≡ Found r next
+        → Stood log at r next
+    go true b c d e ta tb td te f = never f
+    go false true c d e ta tb td te f = never f
+    go false false true d e ta tb td te f = never f
+    go false false false true e ta tb td te f = never f
+    go false false false false false ta tb td te f = never f
+    go false false false false true ta tb td te f =
+        let is : r ≡ recordAt log at = cc in
+        let on : next ≡ at + 1 + getD log at 0 = cc in
+        let same : kindOf (r .event) ≡ kind = ap (λ (r : Record). kindOf (r .event)) is ∙ kind-back kind (bigEndian log (at + 8) 4) (eqb-false (lengthOf kind) 0 td) in
+        let long : getD log at 0 ≡ lengthOf (kindOf (r .event)) = eqb-true (getD log at 0) (lengthOf kind) te ∙ ap lengthOf (sym same) in
+        record {
+          inside = leb-false (length log) at ta;
+          fits = omega (arith, leb-false (length log) at ta, ltb-false (length log - (at + 1)) (getD log at 0) tb);
+          long = long;
+          kind = sym same;
+          client = ap (λ (r : Record). r .client) is;
+          tick = ap (λ (r : Record). r .tick) is;
+          event = rw same (ap (λ (r : Record). r .event) is);
+          ends = omega arith;
+        }
+
+-- a byte and the part behind it are one part
+ahead : (log : List ℕ) (at next n size : ℕ) → at < length log → next ≡ suc at → size ≡ suc n → getD log at 0 ∷ take n (drop next log) ≡ take size (drop at log)
+ahead log at next n size h e f = rw (e, f, drop-cons log at 0 h)
+
+-- two parts, one behind the other, are one
+joined : (log : List ℕ) (at next n m : ℕ) → next ≡ at + n → take n (drop at log) ++ take m (drop next log) ≡ take (n + m) (drop at log)
+joined log at next n m e = rw (e, take-add n m (drop at log), drop-drop)
+
+-- a record that stands in a list of bytes, put back into bytes, is the bytes that stand there
+pub record-back : {log : List ℕ} {at next : ℕ} {r : Record} → Stood log at r next → Bytes log → encode r ≡ take (sizeOf r) (drop at log)
+unfolding encode
+record-back {log} {at} {next} {r} s b =
+    let least = event-least (r .event) in
+    let width : ℕ = lengthOf (kindOf (r .event)) - 7 in
+    rw (
+      ← (s .long),
+      ← (s .kind),
+      s .client,
+      s .tick,
+      value-fills (r .event) (bigEndian log (at + 8)) (s .event),
+      number-back log (at + 2) 2 b (omega arith),
+      number-back log (at + 4) 4 b (omega arith),
+      number-back log (at + 8) width b (omega arith),
+      joined log (at + 2) (at + 4) 2 4 (omega arith),
+      joined log (at + 2) (at + 8) 6 width (omega arith),
+      ahead log (at + 1) (at + 2) (6 + width) (7 + width) (omega arith) (omega arith) (omega arith),
+    )
+    (ahead log at (at + 1) (7 + width) (1 + getD log at 0) (s .inside) (omega arith) (omega arith))
+
+-- the sizes of records with one more behind them
+sizes-snoc : (records : List Record) (r : Record) → sizes (records ++ (r ∷ [])) ≡ sizes records + sizeOf r
+unfolding sizes
+sizes-snoc [] r = omega arith
+sizes-snoc (x ∷ records) r = omega (arith, sizes-snoc records r)
+
+-- the bytes of records with one more behind them
+encode-snoc : (records : List Record) (r : Record) → encodeAll (records ++ (r ∷ [])) ≡ encodeAll records ++ encode r
+unfolding encodeAll
+encode-snoc [] r = append-nil (encode r)
+encode-snoc (x ∷ records) r = rw (encode-snoc records r, append-assoc)
+
+-- records fill a log up to a position: each stands where those before it end, and their bytes are the log's
+record Filled (log : List ℕ) (records : List Record) (at : ℕ) : Type 0 where
+  ends : at ≡ headerLength + sizes records
+  within : at ≤ length log
+  stands : (i : ℕ) → i < length records → decodeAt log (offsetOf records i) ≡ Found (recordOf records i) (offsetOf records (i + 1))
+  bytes : Bytes log → take at log ≡ take headerLength log ++ encodeAll records
+
+-- one more record fills it up to where that record ends
+filled-more : {log : List ℕ} {records : List Record} {at next : ℕ} {r : Record} → Filled log records at → decodeAt log at ≡ Found r next → Filled log (records ++ (r ∷ [])) next
+filled-more {log} {records} {at} {next} {r} f found = record {
+  ends = ends;
+  within = omega (arith, s .ends, s .fits);
+  stands = λ i h. stands i (eq-or-lt-of-le (omega (arith, length-append records (r ∷ []))));
+  bytes = λ b. rw (s .ends, take-add at (sizeOf r) log, f .bytes b, ← (record-back s b), encode-snoc records r) (append-assoc (take headerLength log) (encodeAll records) (encode r));
+}
+  where
+    s : Stood log at r next
+    s = decode-inverts log at found
+
+    ends : next ≡ headerLength + sizes (records ++ (r ∷ []))
+    ends = omega (arith, sizes-snoc records r, s .ends)
+
+    stands : (i : ℕ) → (i ≡ length records) ⊎ (i < length records)
+        → decodeAt log (offsetOf (records ++ (r ∷ [])) i) ≡ Found (recordOf (records ++ (r ∷ [])) i) (offsetOf (records ++ (r ∷ [])) (i + 1))
+    stands i (inl e) = rw (e, take-append-seam records (r ∷ []), take-append-add records (r ∷ []) 1, getD-append-seam, ← ends, ← (f .ends)) found
+    stands i (inr h) = rw (take-append-le i records (r ∷ []) (omega arith), take-append-le (i + 1) records (r ∷ []) (omega arith), List·getD-append _ _ _ i h) (f .stands i h)
+
+-- the records that are read fill the log to its end
+filled-run : {log : List ℕ} {left at : ℕ} {past all : List Record} → Run log left at past all → Filled log (reverse past) at → Filled log (reverse all) (length log)
+filled-run {log} (done {at} end) f = let whole : at ≡ length log = omega arith in rw whole at f
+filled-run {log} {past = past} (more r next found ok rest) f =
+    filled-run rest (subst (λ (l : List Record). Filled log l next) (sym (reverse-cons r past)) (filled-more f found))
+
+-- as many are read as are to be read
+run-length : {log : List ℕ} {left at : ℕ} {past all : List Record} → Run log left at past all → length all ≡ length past + left
+run-length (done end) = omega arith
+run-length (more r next found ok rest) = omega (arith, run-length rest)
+
+-- what a log that is readable but for 10 says of its records: the first fields of `PartialLog`
+module _ {log : List ℕ} {records : List Record} (read : Read log records) where
+  -- its records fill it
+  filled : Filled log records (length log)
+  unfolding sizes encodeAll
+  filled = rw (read .are) (filled-run (read .run) (record {
+    ends = refl;
+    within = read .header;
+    stands = λ i h. absurd (omega arith);
+    bytes = λ b. sym (append-nil (take headerLength log));
+  }))
+
+  -- there are as many as the header says
+  pub count-law : length records ≡ countField log
+  count-law = rw (read .are, length-reverse (read .all)) (omega (arith, run-length (read .run)))
+
+  -- they are at most 1,024
+  pub few-law : length records ≤ maxRecords
+  few-law = omega (arith, count-law)
+
+  -- each stands where those before it end
+  pub stands-law : (i : ℕ) → i < length records → decodeAt log (offsetOf records i) ≡ Found (recordOf records i) (offsetOf records (i + 1))
+  stands-law = filled .stands
+
+  -- the last one ends where the log does
+  pub fills-law : offsetOf records (length records) ≡ length log
+  fills-law = rw take-length (sym (filled .ends))
+
+  -- put back into bytes they are the log
+  pub bytes-law : Bytes log → encodeLog records ≡ log
+  bytes-law b = ap (λ (l : List ℕ). l ++ encodeAll records) header ∙ sym (filled .bytes b) ∙ take-length log
+    where
+      header : logVersion ∷ bytesOf 2 (length records) ≡ take headerLength log
+      header = rw (← (read .version), count-law, number-back log 1 2 b (read .header)) (ahead log 0 1 2 3 (omega arith) refl refl)

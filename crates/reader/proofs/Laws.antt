@@ -1,0 +1,78 @@
+-- The laws of a readable log, for everything above the reader. specs/Readable.antt says what each part means.
+use Prim.Native.Nat.{ℕ, _+_, _≤_, _<_}
+use native.Mathlib.Omega.{arith}
+use mathlib.Core.Path.{_≡_, refl}
+use mathlib.Core.Bool.{Bool, true, false}
+use mathlib.Core.List.{List, [], _++_, reverse-reverse}
+use lib.ListN.{length, length-reverse}
+use lib.Dec.{ltb}
+use borrow.Author.Tests.{ltb-false}
+use Rattle.reader.specs.Choice.{if_then_else_}
+use Rattle.reader.specs.Record.{encode, decodeAt}
+use Rattle.reader.specs.Log.{maxRecords, encodeLog, Reading, readable, refused, pendingCalls, earliestRemove, pendingRemove, readPartial, complete, readLog}
+use Rattle.reader.specs.Readable.{Within, recordOf, sizeOf, Next, PartialLog, ReadableLog, Small, Writable}
+use Rattle.reader.specs.declared.record.Event.the-variants.{CallRemove}
+use Rattle.reader.specs.declared.record.Record.{Record}
+use Rattle.reader.specs.declared.record.Decoded.the-variants.{Found}
+use Rattle.reader.proofs.Bounds.{log-within}
+use Rattle.reader.proofs.Encoding.{decode-encodes, log-encodes}
+use Rattle.reader.proofs.Bytes.{count-law, few-law, stands-law, fills-law, bytes-law}
+use Rattle.reader.proofs.Clients.{ticks-law, first-law, next-law, once-law, returned-law}
+use Rattle.reader.proofs.Run.{Admits, none, Read, reads, run-admits}
+
+-- what holds of the records as they were read, latest first, holds of the log's records
+read-partial : {log : List ℕ} {records : List Record} → Read log records → PartialLog log records
+read-partial {log} {records} read = record {
+  count = count-law read;
+  few = few-law read;
+  stands = stands-law read;
+  fills = fills-law read;
+  bytes = bytes-law read;
+  ticks = rw (read .are) (λ i j l h. ticks-law (read .all) sound i j l (omega (arith, length-reverse (read .all))));
+  first = rw (read .are) (λ j h. first-law (read .all) sound j (omega (arith, length-reverse (read .all))));
+  next = rw (read .are) (next-law (read .all) sound);
+  once = rw (read .are) (λ i j v l h. once-law (read .all) sound i j v l (omega (arith, length-reverse (read .all))));
+}
+  where
+    sound : Admits (read .all)
+    sound = run-admits (read .run) none
+
+read-returned : {log : List ℕ} {records : List Record} → Read log records → length records ≤ pendingRemove records
+    → (i : ℕ) → i < length records → recordOf records i .event ≡ CallRemove → (j : ℕ) × Next records i j
+read-returned {records = records} read none-pending =
+    let all-returned : length (read .all) ≤ earliestRemove (pendingCalls (read .all)) (length (read .all)) =
+    rw (reverse-reverse (read .all), length-reverse (read .all)) at (rw (read .are) at none-pending) in
+    rw (read .are) (λ i h. returned-law (read .all) all-returned i (omega (arith, length-reverse (read .all))))
+
+-- a log that is readable but for 10
+pub partial-log : (log : List ℕ) (records : List Record) → readPartial log ≡ readable records → PartialLog log records
+partial-log log records e = read-partial (reads log records e)
+
+-- what `complete` lets through it leaves as it is, and no remove is pending
+completed : (reading : Reading) (records : List Record) → complete reading ≡ readable records → (reading ≡ readable records) × (length records ≤ pendingRemove records)
+completed (readable rs) records e = go (ltb (pendingRemove rs) (length rs)) refl e
+  where
+    go : (b : Bool) → ltb (pendingRemove rs) (length rs) ≡ b → (if b then refused 10 (pendingRemove rs) else readable rs) ≡ readable records
+        → (readable rs ≡ readable records) × (length records ≤ pendingRemove records)
+    go true t e = let z : _≡_ {A = ℕ} 0 1 = cc in absurd (omega arith)
+    go false t e = let same : rs ≡ records = cc in (e, rw same at (ltb-false (pendingRemove rs) (length rs) t))
+completed (refused number index) records e = let z : _≡_ {A = ℕ} 0 1 = cc in absurd (omega arith)
+
+-- a readable log
+pub readable-log : (log : List ℕ) (records : List Record) → readLog log ≡ readable records → ReadableLog log records
+readable-log log records e =
+    let whole = completed (readPartial log) records e in
+    let read : Read log records = reads log records (whole .0) in
+    record { partial = read-partial read; returned = read-returned read (whole .1) }
+
+-- the other direction: a record that is written is found where it stands
+pub written-record : (before after : List ℕ) (r : Record) → Small r → decodeAt (before ++ encode r ++ after) (length before) ≡ Found r (length before + sizeOf r)
+written-record = decode-encodes
+
+-- and a log of records that can be written is read as those records
+pub written-log : (records : List Record) → length records ≤ maxRecords → Writable [] records → readPartial (encodeLog records) ≡ readable records
+written-log = log-encodes
+
+-- a readable log is short, and a refusal has a number from 1 to 10 and an index up to 1,024
+pub within : (log : List ℕ) → Within (readLog log)
+within = log-within

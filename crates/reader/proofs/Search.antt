@@ -1,0 +1,28 @@
+-- A bounded search: the lowest number below a bound that has a property, or that none has it.
+use Prim.Native.Nat.{ℕ, zero, suc, _<_}
+use native.Mathlib.Omega.{arith}
+use native.Mathlib.Decide.{decLt}
+use mathlib.Core.Logic.{_⊎_, inl, inr}
+use mathlib.Core.Path.{_≡_}
+
+pub record Lowest (P : ℕ → Type 0) (n : ℕ) : Type 0 where
+  pub at : ℕ
+  pub below : at < n
+  pub holds : P at
+  pub none-lower : (m : ℕ) → m < at → P m → ⊥
+
+abbrev pub None : (ℕ → Type 0) → ℕ → Type 0
+None P n = (m : ℕ) → m < n → P m → ⊥
+
+pub lowest : (P : ℕ → Type 0) → ((m : ℕ) → Dec (P m)) → (n : ℕ) → Lowest P n ⊎ None P n
+lowest P d zero = inr (λ m h p. absurd (omega arith))
+lowest P d (suc n) = go (lowest P d n) (d n)
+  where
+    further : None P n → (P n → ⊥) → (m : ℕ) → m < suc n → P m → Dec (m < n) → ⊥
+    further none no-n m h p (yes l) = none m l p
+    further none no-n m h p (no l) = let e : m ≡ n = omega arith in no-n (rw e at p)
+
+    go : Lowest P n ⊎ None P n → Dec (P n) → Lowest P (suc n) ⊎ None P (suc n)
+    go (inl s) e = inl (record { at = s .at; below = omega (arith, s .below); holds = s .holds; none-lower = s .none-lower })
+    go (inr none) (yes p) = inl (record { at = n; below = omega arith; holds = p; none-lower = none })
+    go (inr none) (no q) = inr (λ m h p. further none q m h p (decLt m n))

@@ -1,0 +1,222 @@
+// The records of a log, read one after the other behind the header. What is known of those before is kept in tables, as
+// specs/Tables.antt says.
+ghost use mathlib.Core.Path.{_≡_};
+ghost use mathlib.Core.List.{[]};
+ghost use Prim.Native.Nat.{_≤_, _<_};
+ghost use Rattle.reader.specs.Log.{headerLength, maxRecords, scan};
+ghost use Rattle.reader.specs.Tables.{Room, Admitted, Stepped, faultIn, surveyed};
+use crate::cursor::read_at;
+use crate::log::HEADER;
+use crate::log::MAX_RECORDS;
+use crate::pending::ADD_CALL;
+use crate::pending::REMOVE_CALL;
+use crate::pending::begin_call;
+use crate::pending::earliest_remove;
+use crate::pending::end_call;
+use crate::pending::pending_kind;
+use crate::record::Decoded;
+use crate::record::Event;
+use crate::record::Record;
+use crate::refusal::ADDED_TWICE;
+use crate::refusal::CLIENT_BUSY;
+use crate::refusal::MALFORMED;
+use crate::refusal::NOTHING_CALLED;
+use crate::refusal::TICK_FELL;
+use crate::table::Table;
+use crate::table::contains;
+use crate::table::push;
+
+// How far a scan has come: the offset of the next record, the last tick, how many calls are pending, how many values were
+// added and how many operations were called.
+pub struct Progress {
+    pub at: usize,
+    pub tick: u32,
+    pub pending: usize,
+    pub added: usize,
+    pub operations: usize,
+}
+
+// What reading one record comes to.
+pub enum Step {
+    Next(Progress),
+    Stop(u32),
+}
+
+// The answer of a scan, with the index of the earliest pending remove, `records` where there is none.
+pub enum Survey {
+    Whole {
+        records: usize,
+        operations: usize,
+        pending_remove: usize,
+    },
+    Broken {
+        number: u32,
+        index: usize,
+    },
+}
+
+// Refusals 6 to 9: what is wrong with a record behind those that the tables hold, 0 for nothing.
+fn fault(r: Record, p: Progress, clients: &Table, codes: &Table, values: &Table) -> u32
+    requires { ⌜ Room p (now clients) (now codes) (now values) ⌝ }
+    ensures { λ f. ⌜ f ≡ faultIn r p (now (clients .entry)) (now (codes .entry)) (now (values .entry)) ⌝ }
+{
+    if r.tick < p.tick {
+        return TICK_FELL;
+    }
+    let client = r.client as u32;
+    let pending = p.pending;
+    let added = p.added;
+    let event = r.event;
+    match event {
+        Event::CallAdd(value) => {
+            if contains(clients, pending, client) {
+                return CLIENT_BUSY;
+            }
+            if contains(values, added, value) {
+                return ADDED_TWICE;
+            }
+            0
+        }
+        Event::CallRemove => {
+            if contains(clients, pending, client) {
+                return CLIENT_BUSY;
+            }
+            0
+        }
+        Event::ReturnAdd => {
+            if pending_kind(clients, codes, pending, client) != ADD_CALL {
+                return NOTHING_CALLED;
+            }
+            0
+        }
+        Event::ReturnRemove(_) => {
+            if pending_kind(clients, codes, pending, client) != REMOVE_CALL {
+                return NOTHING_CALLED;
+            }
+            0
+        }
+    }
+}
+
+// Notes a record that nothing is wrong with in the tables; the next one stands at `next`.
+fn admit(
+    r: Record,
+    next: usize,
+    index: usize,
+    p: Progress,
+    clients: &mut Table,
+    codes: &mut Table,
+    values: &mut Table,
+) -> Progress
+    requires { ⌜ (index < maxRecords) × Room p (now clients) (now codes) (now values) ⌝ }
+    ensures { λ q. ⌜ Admitted r next index p (now (clients .entry)) (now (codes .entry)) (now (values .entry)) q (now (clients .exit)) (now (codes .exit)) (now (values .exit)) ⌝ }
+{
+    let client = r.client as u32;
+    let pending = p.pending;
+    let added = p.added;
+    let event = r.event;
+    match event {
+        Event::CallAdd(value) => {
+            begin_call(clients, codes, pending, client, ADD_CALL, index);
+            push(values, added, value);
+            Progress {
+                at: next,
+                tick: r.tick,
+                pending: pending + 1,
+                added: added + 1,
+                operations: p.operations + 1,
+            }
+        }
+        Event::CallRemove => {
+            begin_call(clients, codes, pending, client, REMOVE_CALL, index);
+            Progress {
+                at: next,
+                tick: r.tick,
+                pending: pending + 1,
+                added,
+                operations: p.operations + 1,
+            }
+        }
+        Event::ReturnAdd => Progress {
+            at: next,
+            tick: r.tick,
+            pending: end_call(clients, codes, pending, client),
+            added,
+            operations: p.operations,
+        },
+        Event::ReturnRemove(_) => Progress {
+            at: next,
+            tick: r.tick,
+            pending: end_call(clients, codes, pending, client),
+            added,
+            operations: p.operations,
+        },
+    }
+}
+
+// Reads one record, the one with this index.
+fn read_record(
+    log: &[u8],
+    index: usize,
+    p: Progress,
+    clients: &mut Table,
+    codes: &mut Table,
+    values: &mut Table,
+) -> Step
+    requires { ⌜ (index < maxRecords) × Room p (now clients) (now codes) (now values) ⌝ }
+    ensures { λ s. ⌜ Stepped (now (log .entry)) index p (now (clients .entry)) (now (codes .entry)) (now (values .entry)) s (now (clients .exit)) (now (codes .exit)) (now (values .exit)) ⌝ }
+{
+    let at = p.at;
+    match read_at(log, at) {
+        Decoded::Malformed(number) => Step::Stop(number),
+        Decoded::Found { record, next } => {
+            let number = fault(record, p, clients, codes, values);
+            if number != 0 {
+                return Step::Stop(number);
+            }
+            Step::Next(admit(record, next, index, p, clients, codes, values))
+        }
+    }
+}
+
+// Reads the records behind the header, and the end of the log.
+pub fn read_records(log: &[u8], count: usize) -> Survey
+    requires { ⌜ count ≤ maxRecords ⌝ }
+    ensures { λ r. ⌜ r ≡ surveyed (scan (now (log .entry)) count headerLength []) ⌝ }
+{
+    let mut clients = [0u32; MAX_RECORDS];
+    let mut codes = [0u32; MAX_RECORDS];
+    let mut values = [0u32; MAX_RECORDS];
+    let mut p = Progress {
+        at: HEADER,
+        tick: 0,
+        pending: 0,
+        added: 0,
+        operations: 0,
+    };
+    let mut i = 0;
+    while i < count {
+        match read_record(log, i, p, &mut clients, &mut codes, &mut values) {
+            Step::Stop(number) => {
+                return Survey::Broken { number, index: i };
+            }
+            Step::Next(q) => {
+                p = q;
+            }
+        }
+        i += 1;
+    }
+    let at = p.at;
+    if at < log.len() {
+        return Survey::Broken {
+            number: MALFORMED,
+            index: count,
+        };
+    }
+    let pending = p.pending;
+    Survey::Whole {
+        records: count,
+        operations: p.operations,
+        pending_remove: earliest_remove(&codes, pending, count),
+    }
+}
