@@ -14,6 +14,7 @@
 #include <stdio.h>
 #include <stdlib.h>
 
+#include "count.h"
 #include "logs.h"
 #include "yauponroof.h"
 
@@ -32,8 +33,6 @@ struct call {
     const uint8_t *frame;
     yr_answer answer;
 };
-
-static unsigned passed, failed;
 
 static yr_answer use_nothing(const uint8_t *log, size_t log_len)
 {
@@ -91,16 +90,6 @@ static size_t measure(struct call *call)
     return used;
 }
 
-static void count(int holds, const char *what)
-{
-    if (holds) {
-        passed++;
-    } else {
-        failed++;
-        printf("failed: %s\n", what);
-    }
-}
-
 /* Measures yr_check on a log, which must be answered as told. */
 static void measure_check(const struct log *log, uint32_t refusal, uint32_t value, const char *name)
 {
@@ -144,6 +133,5 @@ int main(void)
     log_pending_adds(&log, 1023);
     log_record(&log, CALL_REMOVE, 1023, 0);
     measure_check(&log, YR_REFUSAL_PENDING_REMOVE, 1023, "a remove that never returns");
-    printf("%u passed, %u failed\n", passed, failed);
-    return failed != 0;
+    return counted();
 }

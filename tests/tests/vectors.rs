@@ -18,23 +18,23 @@ enum Reading {
     Refused(Answer),
 }
 
-fn folder() -> PathBuf {
-    Path::new(env!("CARGO_MANIFEST_DIR")).join("../../shared/vectors")
+fn vectors() -> PathBuf {
+    Path::new(env!("CARGO_MANIFEST_DIR")).join("../../shared/vectors/document-01.txt")
 }
 
 #[test]
 fn the_reader_answers_as_the_vectors_say() {
-    if !folder().is_dir() {
+    if !vectors().is_file() {
         // Written past the capture of the test's output, so that it is seen.
         writeln!(
             stderr(),
             "vectors: skipped, {} is not there",
-            folder().display()
+            vectors().display()
         )
         .unwrap();
         return;
     }
-    let text = std::fs::read_to_string(folder().join("document-01.txt")).expect("the vectors");
+    let text = std::fs::read_to_string(vectors()).expect("the vectors");
     let mut tally = Tally::new();
     for line in text.lines() {
         check_line(line, &mut tally);

@@ -70,7 +70,7 @@ scan-within log (suc left) at past h = decoded (decodeAt log at) (decode-known l
     decoded (Found r next) k rest = faulted r next (eqb (fault past r) 0) refl (rest r next)
     decoded (Malformed number) k rest = (k .0, k .1, omega arith)
 
-partial-within : (log : List ℕ) → Within (readPartial log)
+pub partial-within : (log : List ℕ) → Within (readPartial log)
 unfolding readPartial
 partial-within log = go (ltb (length log) headerLength) (eqb (getD log 0 0) logVersion) (ltb maxRecords (countField log)) refl
   where

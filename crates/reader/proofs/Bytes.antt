@@ -1,5 +1,5 @@
 -- What stands in a log, byte by byte: each record where the ones before it end, and the log made of their bytes.
-use Prim.Native.Nat.{ℕ, suc, _+_, _-_, _≤_, _<_}
+use Prim.Native.Nat.{ℕ, suc, _+_, _-_, _*_, _≤_, _<_}
 use native.Mathlib.Omega.{arith}
 use native.Mathlib.Nat.{eq-or-lt-of-le}
 use mathlib.Core.Path.{_≡_, refl, sym, ap, _∙_, subst}
@@ -13,12 +13,12 @@ use borrow.Author.Tests.{leb-false, ltb-false, eqb-true, eqb-false}
 use Rattle.reader.specs.Choice.{if_then_else_}
 use Rattle.reader.specs.Number.{bigEndian, bytesOf}
 use Rattle.reader.specs.Record.{kindOf, lengthOf, eventOf, encode, recordAt, decodeAt}
-use Rattle.reader.specs.Log.{logVersion, headerLength, maxRecords, countField, encodeAll, encodeLog}
-use Rattle.reader.specs.Readable.{Bytes, recordOf, sizeOf, sizes, offsetOf}
+use Rattle.reader.specs.Log.{logVersion, headerLength, maxRecords, maxLength, countField, encodeAll, encodeLog}
+use Rattle.reader.specs.Readable.{Bytes, recordOf, sizeOf, sizes, offsetOf, valueIn, Small, Writable}
 use Rattle.reader.specs.declared.record.Record.{Record}
 use Rattle.reader.specs.declared.record.Decoded.the-variants.{Found, Malformed}
-use Rattle.reader.proofs.Numbers.{number-back}
-use Rattle.reader.proofs.Records.{kind-back, event-least, value-fills}
+use Rattle.reader.proofs.Numbers.{number-back, number-small}
+use Rattle.reader.proofs.Records.{kind-back, event-least, event-most, value-within, value-fills}
 use Rattle.reader.proofs.Run.{Run, done, more, Read}
 
 -- a record stands at a position: its bytes are there, its fields are those bytes, and the next position is where it ends
@@ -97,6 +97,27 @@ record-back {log} {at} {next} {r} s b =
     )
     (ahead log at (at + 1) (7 + width) (1 + getD log at 0) (s .inside) (omega arith) (omega arith))
 
+-- and its fields fit their bytes
+small-there : {log : List ℕ} {at next : ℕ} {r : Record} → Stood log at r next → Bytes log → Small r
+small-there {log} {at} {r = r} s b = record {
+  client = omega (arith, s .client, number-small log (at + 2) 2 b);
+  tick = omega (arith, s .tick, number-small log (at + 4) 4 b);
+  value = omega (arith, ap valueIn (s .event), value-within (kindOf (r .event)) (bigEndian log (at + 8) 4), number-small log (at + 8) 4 b);
+}
+
+-- the records that are read, first to last, can be written behind those of the past
+run-writable : {log : List ℕ} {left at : ℕ} {past all : List Record} → Run log left at past all → Bytes log → (records : List Record) × (reverse all ≡ reverse past ++ records) × Writable past records
+run-writable {past = past} (done end) b = ([], sym (append-nil (reverse past)), Writable.none)
+run-writable {log} {past = past} (more {at = at} r next found ok rest) b =
+    let behind = run-writable rest b in
+    (r ∷ behind .0, behind .1 ∙ rw (reverse-cons r past, append-assoc (reverse past) (r ∷ []) (behind .0)) refl, Writable.more (small-there (decode-inverts log at found) b) ok (behind .2))
+
+-- records take at most 12 bytes each
+sizes-most : (records : List Record) → sizes records ≤ 12 * length records
+unfolding sizes
+sizes-most [] = omega arith
+sizes-most (r ∷ records) = omega (arith, sizes-most records, event-most (r .event))
+
 -- the sizes of records with one more behind them
 sizes-snoc : (records : List Record) (r : Record) → sizes (records ++ (r ∷ [])) ≡ sizes records + sizeOf r
 unfolding sizes
@@ -174,6 +195,16 @@ module _ {log : List ℕ} {records : List Record} (read : Read log records) wher
   -- the last one ends where the log does
   pub fills-law : offsetOf records (length records) ≡ length log
   fills-law = rw take-length (sym (filled .ends))
+
+  -- so it has at most 12,291 bytes
+  pub short-law : length log ≤ maxLength
+  short-law = omega (arith, filled .ends, sizes-most records, few-law)
+
+  -- its records can be written
+  pub writable-law : Bytes log → Writable [] records
+  writable-law b =
+      let written = run-writable (read .run) b in
+      rw (read .are, written .1) (written .2)
 
   -- put back into bytes they are the log
   pub bytes-law : Bytes log → encodeLog records ≡ log

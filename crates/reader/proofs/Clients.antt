@@ -3,21 +3,21 @@ use Prim.Native.Nat.{ℕ, suc, _≤_, _<_}
 use native.Mathlib.Omega.{arith}
 use native.Mathlib.Decide.{decLt}
 use mathlib.Core.Path.{_≡_, refl, sym, ap, _∙_}
-use mathlib.Core.Bool.{Bool, true, false, not}
+use mathlib.Core.Bool.{Bool, true, false}
 use mathlib.Core.Logic.{_⊎_, inl, inr}
 use mathlib.Core.List.{List, [], _∷_, _++_, reverse, reverse-cons}
 use lib.ListN.{length, length-reverse, List·getD-append}
 use lib.Seq.{getD-append-seam}
-use lib.Dec.{ltb, eqb}
-use borrow.Author.Tests.{ltb-false, eq-eqb, ne-eqb, eqb-true, eqb-false}
+use lib.Dec.{eqb}
+use borrow.Author.Tests.{eq-eqb, ne-eqb, eqb-true, eqb-false}
 use Rattle.reader.specs.Choice.{if_then_else_}
-use Rattle.reader.specs.Log.{callOf, pendingCalls, pendingKind, earliestRemove, valueOf, addedValues, isIn, lastTick, eventFault, fault}
+use Rattle.reader.specs.Log.{callOf, pendingCalls, pendingKind, earliestRemove, valueOf, addedValues, isIn, lastTick}
 use Rattle.reader.specs.Readable.{recordOf, asks, leaves, Next}
 use Rattle.reader.specs.declared.record.Event.{Event}
 use Rattle.reader.specs.declared.record.Event.the-variants.{CallAdd, CallRemove, ReturnAdd, ReturnRemove}
 use Rattle.reader.specs.declared.record.Record.{Record}
 use Rattle.reader.proofs.Calls.{own-kind, other-kind, pending-below, earliest-below}
-use Rattle.reader.proofs.Keeping.{asked}
+use Rattle.reader.proofs.Faults.{no-fault}
 use Rattle.reader.proofs.Run.{Admits, none, more}
 use Rattle.reader.proofs.Search.{Lowest, None, lowest}
 
@@ -32,15 +32,6 @@ nth-last r past =
 
 pub nth-earlier : (r : Record) (past : List Record) (i : ℕ) → i < length past → nth (r ∷ past) i ≡ nth past i
 nth-earlier r past i h = rw reverse-cons (List·getD-append (reverse past) (r ∷ []) _ i (omega (arith, length-reverse past)))
-
--- a fault of 0 says that the tick has not fallen
-not-fallen : (past : List Record) (r : Record) → fault past r ≡ 0 → lastTick past ≤ r .tick
-unfolding fault
-not-fallen past r ok = go (ltb (r .tick) (lastTick past)) refl ok
-  where
-    go : (b : Bool) → ltb (r .tick) (lastTick past) ≡ b → (if b then 6 else eventFault (r .event) (pendingKind (pendingCalls past) (r .client)) (addedValues past)) ≡ 0 → lastTick past ≤ r .tick
-    go true t z = absurd (omega arith)
-    go false t z = ltb-false (r .tick) (lastTick past) t
 
 -- an index among one record more: it is the last, or an earlier one
 data Index (n i : ℕ) : Type 0 where
@@ -60,7 +51,7 @@ tick-last (r ∷ past) (more ok a) i h = go (index (length past) i h) (tick-last
   where
     go : Index (length past) i → (i < length past → nth past i .tick ≤ lastTick past) → nth (r ∷ past) i .tick ≤ r .tick
     go (last e) ih = rw (e, nth-last r past) (omega arith)
-    go (earlier l) ih = rw (nth-earlier r past i l) (omega (arith, not-fallen past r ok, ih l))
+    go (earlier l) ih = rw (nth-earlier r past i l) (omega (arith, no-fault past r ok .tick, ih l))
 
 -- "Ticks are checked not to fall": from any record to any later one
 pub ticks-law : (past : List Record) → Admits past → (i j : ℕ) → i ≤ j → j < length past → nth past i .tick ≤ nth past j .tick
@@ -125,7 +116,7 @@ first-law (r ∷ past) (more ok a) j h alone = go (index (length past) j h) (fir
     go : Index (length past) j → (j < length past → ((k : ℕ) → k < j → nth past k .client ≡ nth past j .client → ⊥) → asks (nth past j .event) ≡ 0) → asks (nth (r ∷ past) j .event) ≡ 0
     go (last e) ih =
         let here : nth (r ∷ past) j ≡ r = ap (nth (r ∷ past)) e ∙ nth-last r past in
-        rw here (sym (asked past r ok) ∙ kind-absent past (r .client) (λ k l q. alone k (omega arith) (rw (nth-earlier r past k l, here) q)))
+        rw here (sym (no-fault past r ok .asked) ∙ kind-absent past (r .client) (λ k l q. alone k (omega arith) (rw (nth-earlier r past k l, here) q)))
     go (earlier l) ih =
         let same : nth (r ∷ past) j ≡ nth past j = nth-earlier r past j l in
         rw same (ih l (λ k b q. alone k b (rw (nth-earlier r past k (omega arith), same) q)))
@@ -146,7 +137,7 @@ next-law (r ∷ past) (more ok a) i j n = go (index (length past) j (omega (arit
         let here : nth (r ∷ past) j ≡ r = ap (nth (r ∷ past)) e ∙ nth-last r past in
         let own : r .client ≡ nth past i .client = rw (here, was) at (n .same) in
         let latest = kind-latest past i i-earlier (λ k b l q. n .between k b (omega arith) (rw (nth-earlier r past k l, was) q)) in
-        rw (here, was) (sym (asked past r ok) ∙ (ap (pendingKind (pendingCalls past)) own ∙ latest))
+        rw (here, was) (sym (no-fault past r ok .asked) ∙ (ap (pendingKind (pendingCalls past)) own ∙ latest))
     go (earlier l) ih =
         let same : nth (r ∷ past) j ≡ nth past j = nth-earlier r past j l in
         rw (same, was) (ih (record {
@@ -186,25 +177,6 @@ value-added (r ∷ past) i v h e = go (index (length past) i h) (value-added pas
         rw own (isIn-last v (addedValues past))
     go (earlier l) ih = isIn-append v (addedValues past) (valueOf (r .event)) (ih l (rw (nth-earlier r past i l) at e))
 
-not-added : (past : List Record) (r : Record) (v : ℕ) → fault past r ≡ 0 → r .event ≡ CallAdd v → isIn v (addedValues past) ≡ false
-unfolding fault eventFault
-not-added past r v ok e = tick (ltb (r .tick) (lastTick past)) (rw e at ok)
-  where
-    kind : ℕ
-    kind = pendingKind (pendingCalls past) (r .client)
-
-    value : (b : Bool) → _≡_ {A = ℕ} (if b then 9 else 0) 0 → b ≡ false
-    value true z = absurd (omega arith)
-    value false z = refl
-
-    idle : (b : Bool) → _≡_ {A = ℕ} (if not b then 7 else if isIn v (addedValues past) then 9 else 0) 0 → isIn v (addedValues past) ≡ false
-    idle true z = value (isIn v (addedValues past)) z
-    idle false z = absurd (omega arith)
-
-    tick : (b : Bool) → _≡_ {A = ℕ} (if b then 6 else if not (eqb kind 0) then 7 else if isIn v (addedValues past) then 9 else 0) 0 → isIn v (addedValues past) ≡ false
-    tick true z = absurd (omega arith)
-    tick false z = idle (eqb kind 0) z
-
 -- no value is called to be added twice
 pub once-law : (past : List Record) → Admits past → (i j v : ℕ) → i < j → j < length past → nth past i .event ≡ CallAdd v → nth past j .event ≡ CallAdd v → ⊥
 once-law [] none i j v l h ei ej = omega arith
@@ -216,7 +188,7 @@ once-law (r ∷ past) (more ok a) i j v l h ei ej = go (index (length past) j h)
     go : Index (length past) j → (j < length past → nth past i .event ≡ CallAdd v → nth past j .event ≡ CallAdd v → ⊥) → ⊥
     go (last e) ih =
         let own : r .event ≡ CallAdd v = rw (e, nth-last r past) at ej in
-        let z : _≡_ {A = Bool} true false = sym (value-added past i v (omega arith) was) ∙ not-added past r v ok own in
+        let z : _≡_ {A = Bool} true false = sym (value-added past i v (omega arith) was) ∙ no-fault past r ok .fresh v own in
         let w : _≡_ {A = ℕ} 0 1 = cc in
         omega arith
     go (earlier b) ih = ih b was (rw (nth-earlier r past j b) at ej)

@@ -2,15 +2,23 @@
 use Prim.Native.Nat.{ℕ}
 use mathlib.Core.Path.{_≡_, refl}
 use mathlib.Core.List.{List, [], _∷_}
-use Rattle.reader.specs.Number.{bigEndian}
-use Rattle.reader.specs.Record.{lengthOf, eventOf, decodeAt}
-use Rattle.reader.specs.Log.{ofOthers, pendingCalls, pendingKind, earliestRemove, addedValues, isIn, eventFault, fault, scan, readPartial, readLog, operations, checked}
+use Rattle.reader.specs.Number.{bigEndian, bytesOf}
+use Rattle.reader.specs.Record.{lengthOf, eventOf, encode, decodeAt}
+use Rattle.reader.specs.Log.{Reading, ofOthers, pendingCalls, pendingKind, earliestRemove, addedValues, isIn, eventFault, fault, scan, readPartial, readLog, operations, checked, encodeAll, encodeLog}
+use Rattle.reader.specs.declared.record.Removed.the-variants.{Value, Empty}
+use Rattle.reader.specs.declared.record.Event.the-variants.{CallRemove, ReturnRemove}
+use Rattle.reader.specs.declared.record.Decoded.the-variants.{Found}
 use Rattle.reader.specs.declared.log.Checked.{Checked}
 use Rattle.reader.specs.declared.log.Checked.the-variants.{Readable, Refused}
 
 pub record Example : Type 0 where
   pub log : List ℕ
   pub answer : Checked
+
+-- what is answered where logs are read in this way
+abbrev pub Hold : (List ℕ → Reading) → List Example → Type 0
+Hold read [] = Unit {0}
+Hold read (e ∷ es) = (checked (read (e .log)) ≡ e .answer) × Hold read es
 
 abbrev pub examples : List Example
 examples =
@@ -26,12 +34,16 @@ examples =
     record { log = 1 ∷ 0 ∷ []; answer = Refused 1 0 } ∷
     -- version not 1
     record { log = 3 ∷ 0 ∷ 0 ∷ []; answer = Refused 2 0 } ∷
+    -- version before the number of records
+    record { log = 0 ∷ 4 ∷ 1 ∷ []; answer = Refused 2 0 } ∷
     -- n is 1,025
     record { log = 1 ∷ 4 ∷ 1 ∷ []; answer = Refused 3 0 } ∷
     -- n is 1,024, and the bytes end before the first record
     record { log = 1 ∷ 4 ∷ 0 ∷ []; answer = Refused 1 0 } ∷
     -- bytes left behind record n
     record { log = 1 ∷ 0 ∷ 0 ∷ 0 ∷ []; answer = Refused 1 0 } ∷
+    -- they come before 10
+    record { log = 1 ∷ 0 ∷ 1 ∷ 7 ∷ 2 ∷ 0 ∷ 1 ∷ 0 ∷ 0 ∷ 0 ∷ 1 ∷ 9 ∷ []; answer = Refused 1 1 } ∷
     -- the bytes end before a record
     record { log = 1 ∷ 0 ∷ 1 ∷ []; answer = Refused 1 0 } ∷
     -- inside a record, whatever its kind
@@ -46,19 +58,43 @@ examples =
     record { log = 1 ∷ 0 ∷ 1 ∷ 5 ∷ 1 ∷ 0 ∷ 0 ∷ 0 ∷ 0 ∷ 255 ∷ []; answer = Refused 5 0 } ∷
     -- a tick below the record before, whoever made it
     record { log = 1 ∷ 0 ∷ 2 ∷ 7 ∷ 2 ∷ 0 ∷ 1 ∷ 0 ∷ 0 ∷ 0 ∷ 2 ∷ 7 ∷ 2 ∷ 0 ∷ 2 ∷ 0 ∷ 0 ∷ 0 ∷ 1 ∷ []; answer = Refused 6 1 } ∷
+    -- the tick before the open call
+    record { log = 1 ∷ 0 ∷ 2 ∷ 7 ∷ 2 ∷ 0 ∷ 1 ∷ 0 ∷ 0 ∷ 0 ∷ 2 ∷ 7 ∷ 2 ∷ 0 ∷ 1 ∷ 0 ∷ 0 ∷ 0 ∷ 1 ∷ []; answer = Refused 6 1 } ∷
     -- call by a client with an open call
     record { log = 1 ∷ 0 ∷ 2 ∷ 7 ∷ 2 ∷ 0 ∷ 1 ∷ 0 ∷ 0 ∷ 0 ∷ 1 ∷ 7 ∷ 2 ∷ 0 ∷ 1 ∷ 0 ∷ 0 ∷ 0 ∷ 1 ∷ []; answer = Refused 7 1 } ∷
+    -- the open call before the value
+    record { log = 1 ∷ 0 ∷ 2 ∷ 11 ∷ 1 ∷ 0 ∷ 1 ∷ 0 ∷ 0 ∷ 0 ∷ 1 ∷ 0 ∷ 0 ∷ 0 ∷ 0 ∷ 11 ∷ 1 ∷ 0 ∷ 1 ∷ 0 ∷ 0 ∷ 0 ∷ 1 ∷ 0 ∷ 0 ∷ 0 ∷ 0 ∷ []; answer = Refused 7 1 } ∷
     -- return of the other operation
     record { log = 1 ∷ 0 ∷ 2 ∷ 7 ∷ 2 ∷ 0 ∷ 1 ∷ 0 ∷ 0 ∷ 0 ∷ 1 ∷ 7 ∷ 3 ∷ 0 ∷ 1 ∷ 0 ∷ 0 ∷ 0 ∷ 1 ∷ []; answer = Refused 8 1 } ∷
     -- two removes without return: the earlier call
     record { log = 1 ∷ 0 ∷ 3 ∷ 11 ∷ 1 ∷ 0 ∷ 1 ∷ 0 ∷ 0 ∷ 0 ∷ 1 ∷ 0 ∷ 0 ∷ 0 ∷ 0 ∷ 7 ∷ 2 ∷ 0 ∷ 2 ∷ 0 ∷ 0 ∷ 0 ∷ 1 ∷ 7 ∷ 2 ∷ 0 ∷ 3 ∷ 0 ∷ 0 ∷ 0 ∷ 1 ∷ []; answer = Refused 10 1 } ∷
     []
 
-abbrev pub Hold : List Example → Type 0
-Hold [] = Unit {0}
-Hold (e ∷ es) = (checked (readLog (e .log)) ≡ e .answer) × Hold es
-
 -- every example is answered as it should be
-pub examples-hold : Hold examples
+pub examples-hold : Hold readLog examples
 unfolding bigEndian lengthOf eventOf decodeAt ofOthers pendingCalls pendingKind earliestRemove addedValues isIn eventFault fault scan readPartial operations
-examples-hold = (refl, (refl, (refl, (refl, (refl, (refl, (refl, (refl, (refl, (refl, (refl, (refl, (refl, (refl, (refl, (refl, (refl, (refl, (refl, tt)))))))))))))))))))
+examples-hold = (refl, (refl, (refl, (refl, (refl, (refl, (refl, (refl, (refl, (refl, (refl, (refl, (refl, (refl, (refl, (refl, (refl, (refl, (refl, (refl, (refl, (refl, (refl, tt)))))))))))))))))))))))
+
+abbrev pub partial-examples : List Example
+partial-examples =
+    -- a pending remove
+    record { log = 1 ∷ 0 ∷ 1 ∷ 7 ∷ 2 ∷ 0 ∷ 1 ∷ 0 ∷ 0 ∷ 0 ∷ 1 ∷ []; answer = Readable 1 1 } ∷
+    -- left bytes are refused all the same
+    record { log = 1 ∷ 0 ∷ 1 ∷ 7 ∷ 2 ∷ 0 ∷ 1 ∷ 0 ∷ 0 ∷ 0 ∷ 1 ∷ 9 ∷ []; answer = Refused 1 1 } ∷
+    []
+
+-- and so is a log but for 10
+pub partial-examples-hold : Hold readPartial partial-examples
+unfolding bigEndian lengthOf eventOf decodeAt ofOthers pendingCalls pendingKind addedValues isIn eventFault fault scan readPartial operations
+partial-examples-hold = (refl, (refl, tt))
+
+-- a remove's return with value 0, by client 258 at tick 259
+pub decodes-fields : decodeAt (11 ∷ 4 ∷ 1 ∷ 2 ∷ 0 ∷ 0 ∷ 1 ∷ 3 ∷ 0 ∷ 0 ∷ 0 ∷ 0 ∷ []) 0 ≡ Found (record { client = 258; tick = 259; event = ReturnRemove (Value 0) }) 12
+unfolding bigEndian lengthOf eventOf decodeAt
+decodes-fields = refl
+
+-- an empty remove, call and return, as a log
+pub encodes-fields : encodeLog (record { client = 258; tick = 1; event = CallRemove } ∷ record { client = 258; tick = 259; event = ReturnRemove Empty } ∷ [])
+    ≡ 1 ∷ 0 ∷ 2 ∷ 7 ∷ 2 ∷ 1 ∷ 2 ∷ 0 ∷ 0 ∷ 0 ∷ 1 ∷ 7 ∷ 5 ∷ 1 ∷ 2 ∷ 0 ∷ 0 ∷ 1 ∷ 3 ∷ []
+unfolding bytesOf lengthOf encode encodeAll
+encodes-fields = refl

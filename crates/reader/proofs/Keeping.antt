@@ -2,19 +2,19 @@
 use Prim.Native.Nat.{ℕ, _+_, _*_, _≤_, _<_}
 use native.Mathlib.Omega.{arith}
 use mathlib.Core.Path.{_≡_, refl, sym, ap, _∙_}
-use mathlib.Core.Bool.{Bool, true, false, not}
+use mathlib.Core.Bool.{not}
 use mathlib.Core.List.{List, [], _∷_, _++_, map, map-append, append-nil}
 use lib.ListN.{length, take, length-append}
 use lib.Dec.{ltb, eqb, lit≤}
-use borrow.Author.Tests.{eqb-true}
 use Rattle.reader.specs.Choice.{if_then_else_}
-use Rattle.reader.specs.Log.{maxRecords, Call, callOf, pendingCalls, pendingKind, valueOf, addedValues, isIn, lastTick, isCall, operations, eventFault, fault}
+use Rattle.reader.specs.Log.{maxRecords, Call, callOf, pendingCalls, pendingKind, valueOf, addedValues, lastTick, isCall, operations, eventFault, fault}
 use Rattle.reader.specs.Readable.{asks}
 use Rattle.reader.specs.Tables.{position, without, code, eventFaultIn, faultIn, PendingKept, AddedKept, Room, Kept, Begun, Ended, Pushed}
 use Rattle.reader.specs.declared.record.Event.{Event}
 use Rattle.reader.specs.declared.record.Event.the-variants.{CallAdd, CallRemove, ReturnAdd, ReturnRemove}
 use Rattle.reader.specs.declared.record.Record.{Record}
 use Rattle.reader.specs.declared.scan.Progress.{Progress}
+use Rattle.reader.proofs.Faults.{no-fault}
 use Rattle.reader.proofs.Calls.{Sound, others-all, others-without, pending-sound, pending-few, kind-found, client-in, map-without, length-without}
 
 -- what the code finds wrong is what is wrong
@@ -35,35 +35,6 @@ fault-found {past} {p} {clients} {codes} {values} k r =
     go CallRemove = rw (client-in (r .client) calls sound) refl
     go ReturnAdd = ap (λ (k : ℕ). if not (eqb k 1) then 8 else 0) (kind-found (r .client) calls sound)
     go (ReturnRemove x) = ap (λ (k : ℕ). if not (eqb k 2) then 8 else 0) (kind-found (r .client) calls sound)
-
--- a record that nothing is wrong with finds the call pending that it asks for
-pub asked : (past : List Record) (r : Record) → fault past r ≡ 0 → pendingKind (pendingCalls past) (r .client) ≡ asks (r .event)
-unfolding fault eventFault
-asked past r ok = tick (ltb (r .tick) (lastTick past)) ok
-  where
-    kind : ℕ
-    kind = pendingKind (pendingCalls past) (r .client)
-
-    values : List ℕ
-    values = addedValues past
-
-    none : (n : ℕ) (b : Bool) → eqb kind 0 ≡ b → (if not b then 7 else n) ≡ 0 → kind ≡ 0
-    none n true e z = eqb-true kind 0 e
-    none n false e z = absurd (omega arith)
-
-    one : (k : ℕ) (b : Bool) → eqb kind k ≡ b → _≡_ {A = ℕ} (if not b then 8 else 0) 0 → kind ≡ k
-    one k true e z = eqb-true kind k e
-    one k false e z = absurd (omega arith)
-
-    event : (e : Event) → eventFault e kind values ≡ 0 → kind ≡ asks e
-    event (CallAdd v) z = none (if isIn v values then 9 else 0) (eqb kind 0) refl z
-    event CallRemove z = none 0 (eqb kind 0) refl z
-    event ReturnAdd z = one 1 (eqb kind 1) refl z
-    event (ReturnRemove x) z = one 2 (eqb kind 2) refl z
-
-    tick : (b : Bool) → (if b then 6 else eventFault (r .event) kind values) ≡ 0 → kind ≡ asks (r .event)
-    tick true z = absurd (omega arith)
-    tick false z = event (r .event) z
 
 -- a return makes no call and adds no value
 returns-nothing : (e : Event) (client index : ℕ) → (asks e ≡ 0 → ⊥) → (callOf e client index ≡ []) × (valueOf e ≡ []) × (isCall e ≡ 0)
@@ -185,7 +156,7 @@ module _ {past : List Record} (r : Record) where
     keeps-add e b v = record {
       tick = refl;
       calls = rw e (omega (arith, k .calls));
-      pending = pending-called (k .pending) len 1 (rw e refl) (asked past r ok ∙ ap asks e) b;
+      pending = pending-called (k .pending) len 1 (rw e refl) (no-fault past r ok .asked ∙ ap asks e) b;
       added = added-one (k .added) (rw e refl) v;
     }
 
@@ -195,7 +166,7 @@ module _ {past : List Record} (r : Record) where
     keeps-remove e b = record {
       tick = refl;
       calls = rw e (omega (arith, k .calls));
-      pending = pending-called (k .pending) len 2 (rw e refl) (asked past r ok ∙ ap asks e) b;
+      pending = pending-called (k .pending) len 2 (rw e refl) (no-fault past r ok .asked ∙ ap asks e) b;
       added = added-none (k .added) (rw e refl);
     }
 
@@ -207,6 +178,6 @@ module _ {past : List Record} (r : Record) where
         record {
           tick = refl;
           calls = rw (nothing .2) (omega (arith, k .calls));
-          pending = pending-returned (k .pending) n (asked past r ok) e;
+          pending = pending-returned (k .pending) n (no-fault past r ok .asked) e;
           added = added-none (k .added) (nothing .1);
         }

@@ -9,25 +9,29 @@ use lib.Dec.{ltb}
 use borrow.Author.Tests.{ltb-false}
 use Rattle.reader.specs.Choice.{if_then_else_}
 use Rattle.reader.specs.Record.{encode, decodeAt}
-use Rattle.reader.specs.Log.{maxRecords, encodeLog, Reading, readable, refused, pendingCalls, earliestRemove, pendingRemove, readPartial, complete, readLog}
+use Rattle.reader.specs.Log.{maxRecords, encodeLog, Reading, readable, refused, pendingCalls, earliestRemove, pendingRemove, readPartial, complete, readLog, operations}
 use Rattle.reader.specs.Readable.{Within, recordOf, sizeOf, Next, PartialLog, ReadableLog, Small, Writable}
 use Rattle.reader.specs.declared.record.Event.the-variants.{CallRemove}
 use Rattle.reader.specs.declared.record.Record.{Record}
 use Rattle.reader.specs.declared.record.Decoded.the-variants.{Found}
-use Rattle.reader.proofs.Bounds.{log-within}
+use Rattle.reader.proofs.Bounds.{partial-within, log-within}
+use Rattle.reader.proofs.Keeping.{operations-few}
 use Rattle.reader.proofs.Encoding.{decode-encodes, log-encodes}
-use Rattle.reader.proofs.Bytes.{count-law, few-law, stands-law, fills-law, bytes-law}
+use Rattle.reader.proofs.Bytes.{count-law, few-law, stands-law, fills-law, short-law, bytes-law, writable-law}
 use Rattle.reader.proofs.Clients.{ticks-law, first-law, next-law, once-law, returned-law}
 use Rattle.reader.proofs.Run.{Admits, none, Read, reads, run-admits}
 
 -- what holds of the records as they were read, latest first, holds of the log's records
 read-partial : {log : List ℕ} {records : List Record} → Read log records → PartialLog log records
 read-partial {log} {records} read = record {
+  version = read .version;
   count = count-law read;
   few = few-law read;
   stands = stands-law read;
   fills = fills-law read;
+  short = short-law read;
   bytes = bytes-law read;
+  writable = writable-law read;
   ticks = rw (read .are) (λ i j l h. ticks-law (read .all) sound i j l (omega (arith, length-reverse (read .all))));
   first = rw (read .are) (λ j h. first-law (read .all) sound j (omega (arith, length-reverse (read .all))));
   next = rw (read .are) (next-law (read .all) sound);
@@ -73,6 +77,13 @@ written-record = decode-encodes
 pub written-log : (records : List Record) → length records ≤ maxRecords → Writable [] records → readPartial (encodeLog records) ≡ readable records
 written-log = log-encodes
 
--- a readable log is short, and a refusal has a number from 1 to 10 and an index up to 1,024
+-- a log that is read is short, and a refusal has a number from 1 to 10 and an index of at most 1,024; the same but for 10
 pub within : (log : List ℕ) → Within (readLog log)
 within = log-within
+
+pub within-partial : (log : List ℕ) → Within (readPartial log)
+within-partial = partial-within
+
+-- there are no more operations than records
+pub few-operations : (records : List Record) → operations records ≤ length records
+few-operations = operations-few

@@ -4,6 +4,7 @@ pub mod Calls
 pub mod Clients
 pub mod Encoding
 pub mod Examples
+pub mod Faults
 pub mod Keeping
 pub mod Laws
 pub mod Lists

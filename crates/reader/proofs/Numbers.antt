@@ -24,6 +24,12 @@ number-back bytes at (suc width) b h =
         let r : (x * 256 + y) % 256 ≡ y = omega arith in
         rw (q, r)
 
+-- it fits as many bytes as it was read from
+pub number-small : (bytes : List ℕ) (at width : ℕ) → Bytes bytes → bigEndian bytes at width < 256 ^ width
+unfolding bigEndian
+number-small bytes at zero b = lit< tt
+number-small bytes at (suc width) b = rw pow-suc (omega (arith, number-small bytes at width b, b (at + width)))
+
 -- a number takes as many bytes as it is given
 length-bytes : (width x : ℕ) → length (bytesOf width x) ≡ width
 unfolding bytesOf

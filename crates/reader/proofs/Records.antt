@@ -1,5 +1,6 @@
 -- Facts of a record's definitions.
 use Prim.Native.Nat.{ℕ, _-_, _≤_}
+use native.Mathlib.Omega.{arith}
 use mathlib.Core.Path.{_≡_, refl, sym, ap}
 use mathlib.Core.Bool.{Bool, true, false}
 use lib.Dec.{eqb, lit≤}
@@ -7,6 +8,7 @@ use borrow.Author.Tests.{eqb-true}
 use Rattle.reader.specs.Choice.{if_then_else_}
 use Rattle.reader.specs.Number.{bytesOf}
 use Rattle.reader.specs.Record.{kindOf, valueBytes, eventOf, lengthOf}
+use Rattle.reader.specs.Readable.{valueIn}
 use Rattle.reader.specs.declared.record.Removed.the-variants.{Value, Empty}
 use Rattle.reader.specs.declared.record.Event.{Event}
 use Rattle.reader.specs.declared.record.Event.the-variants.{CallAdd, CallRemove, ReturnAdd, ReturnRemove}
@@ -35,7 +37,28 @@ event-least ReturnAdd = lit≤ tt
 event-least (ReturnRemove (Value v)) = lit≤ tt
 event-least (ReturnRemove Empty) = lit≤ tt
 
--- and so has a known kind
+-- and at most 11 bytes
+pub event-most : (e : Event) → lengthOf (kindOf e) ≤ 11
+unfolding lengthOf
+event-most (CallAdd v) = lit≤ tt
+event-most CallRemove = lit≤ tt
+event-most ReturnAdd = lit≤ tt
+event-most (ReturnRemove (Value v)) = lit≤ tt
+event-most (ReturnRemove Empty) = lit≤ tt
+
+-- an event has the value that it was made of, or none
+pub value-within : (kind v : ℕ) → valueIn (eventOf kind v) ≤ v
+unfolding eventOf
+value-within kind v = go (eqb kind 1) (eqb kind 2) (eqb kind 3) (eqb kind 4)
+  where
+    go : (a b c d : Bool) → valueIn (if a then CallAdd v else if b then CallRemove else if c then ReturnAdd else if d then ReturnRemove (Value v) else ReturnRemove Empty) ≤ v
+    go true b c d = omega arith
+    go false true c d = omega arith
+    go false false true d = omega arith
+    go false false false true = omega arith
+    go false false false false = omega arith
+
+-- a known kind has room for kind, client and tick, as an event's has
 pub length-least : (kind : ℕ) → (lengthOf kind ≡ 0 → ⊥) → 7 ≤ lengthOf kind
 length-least kind known = rw (kind-back kind 0 known) at (event-least (eventOf kind 0))
 

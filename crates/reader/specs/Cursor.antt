@@ -3,7 +3,7 @@ use Prim.Native.Nat.{ℕ}
 use Rattle.reader.specs.declared.record.Decoded.{Decoded}
 use Rattle.reader.specs.declared.record.Decoded.the-variants.{Found, Malformed}
 
--- how far a reader at `at` has come once it has read what stands there: behind the record, or nowhere
+-- how far a reader at `at` has come once it has read what stands there: behind the record, or no further
 abbrev pub behind : Decoded → ℕ → ℕ
 behind (Found r next) at = next
 behind (Malformed number) at = at

@@ -27,6 +27,10 @@ headerLength = 3
 abbrev pub maxRecords : ℕ
 maxRecords = 1024
 
+-- the most bytes of a readable log: the header and 1,024 calls of add, of 12 bytes each
+abbrev pub maxLength : ℕ
+maxLength = 12291
+
 -- n
 abbrev pub countField : List ℕ → ℕ
 countField log = bigEndian log 1 2

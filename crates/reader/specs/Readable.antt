@@ -5,14 +5,14 @@ use mathlib.Core.Path.{_≡_}
 use mathlib.Core.List.{List, [], _∷_}
 use lib.ListN.{length, getD, take}
 use Rattle.reader.specs.Record.{kindOf, lengthOf, decodeAt}
-use Rattle.reader.specs.Log.{headerLength, maxRecords, addCall, removeCall, countField, Reading, readable, refused, fault, encodeLog}
+use Rattle.reader.specs.Log.{logVersion, headerLength, maxRecords, maxLength, addCall, removeCall, countField, Reading, readable, refused, fault, encodeLog}
 use Rattle.reader.specs.declared.record.Removed.the-variants.{Value, Empty}
 use Rattle.reader.specs.declared.record.Event.{Event}
 use Rattle.reader.specs.declared.record.Event.the-variants.{CallAdd, CallRemove, ReturnAdd, ReturnRemove}
 use Rattle.reader.specs.declared.record.Record.{Record}
 use Rattle.reader.specs.declared.record.Decoded.the-variants.{Found}
 
--- Readable logs are short, and refusals have a number from 1 to 10 and an index up to the number of records.
+-- A log that is read has at most 1,024 records, and a refusal a number from 1 to 10 and an index of at most 1,024.
 abbrev pub Within : Reading → Type 0
 Within (readable records) = length records ≤ maxRecords
 Within (refused number index) = (1 ≤ number) × (number ≤ 10) × (index ≤ maxRecords)
@@ -58,30 +58,6 @@ pub record Next (records : List Record) (i j : ℕ) : Type 0 where
   pub same : recordOf records j .client ≡ recordOf records i .client
   pub between : (k : ℕ) → i < k → k < j → recordOf records k .client ≡ recordOf records i .client → ⊥
 
--- A log that is readable but for 10, and its records.
-pub record PartialLog (log : List ℕ) (records : List Record) : Type 0 where
-  -- "Bytes 1 and 2 are n, the number of records, at most 1,024."
-  pub count : length records ≡ countField log
-  pub few : length records ≤ maxRecords
-  -- where each record stands, and that they fill the log
-  pub stands : (i : ℕ) → i < length records → decodeAt log (offsetOf records i) ≡ Found (recordOf records i) (offsetOf records (i + 1))
-  pub fills : offsetOf records (length records) ≡ length log
-  -- the records put back into bytes are the log
-  pub bytes : Bytes log → encodeLog records ≡ log
-  -- "Ticks are checked not to fall."
-  pub ticks : (i j : ℕ) → i ≤ j → j < length records → recordOf records i .tick ≤ recordOf records j .tick
-  -- a client's records go call, return, call, ..: the first is a call; a return that its call asks for follows a call, and a call follows a return
-  pub first : (j : ℕ) → j < length records → ((k : ℕ) → k < j → recordOf records k .client ≡ recordOf records j .client → ⊥) → asks (recordOf records j .event) ≡ 0
-  pub next : (i j : ℕ) → Next records i j → asks (recordOf records j .event) ≡ leaves (recordOf records i .event)
-  -- no value is called to be added twice
-  pub once : (i j v : ℕ) → i < j → j < length records → recordOf records i .event ≡ CallAdd v → recordOf records j .event ≡ CallAdd v → ⊥
-
--- A readable log, and its records.
-pub record ReadableLog (log : List ℕ) (records : List Record) : Type 0 where
-  pub partial : PartialLog log records
-  -- every remove has a return: its client's next record, which asks for a remove's call by `next`
-  pub returned : (i : ℕ) → i < length records → recordOf records i .event ≡ CallRemove → (j : ℕ) × Next records i j
-
 -- the value of an event, 0 if it has none
 abbrev pub valueIn : Event → ℕ
 valueIn (CallAdd v) = v
@@ -100,3 +76,31 @@ pub record Small (r : Record) : Type 0 where
 pub data Writable : List Record → List Record → Type 0 where
   none : {past : List Record} → Writable past []
   more : {past records : List Record} {r : Record} → Small r → fault past r ≡ 0 → Writable (r ∷ past) records → Writable past (r ∷ records)
+
+-- A log that is readable but for 10, and its records.
+pub record PartialLog (log : List ℕ) (records : List Record) : Type 0 where
+  -- "Byte 0 is the version, 1. Bytes 1 and 2 are n, the number of records, at most 1,024."
+  pub version : getD log 0 0 ≡ logVersion
+  pub count : length records ≡ countField log
+  pub few : length records ≤ maxRecords
+  -- where each record stands, and that they fill the log
+  pub stands : (i : ℕ) → i < length records → decodeAt log (offsetOf records i) ≡ Found (recordOf records i) (offsetOf records (i + 1))
+  pub fills : offsetOf records (length records) ≡ length log
+  pub short : length log ≤ maxLength
+  -- the records put back into bytes are the log
+  pub bytes : Bytes log → encodeLog records ≡ log
+  -- and they can be written: their fields fit, and none has a fault behind those before it
+  pub writable : Bytes log → Writable [] records
+  -- "Ticks are checked not to fall."
+  pub ticks : (i j : ℕ) → i ≤ j → j < length records → recordOf records i .tick ≤ recordOf records j .tick
+  -- a client's records go call, return, call, ..: the first is a call; a return that its call asks for follows a call, and a call follows a return
+  pub first : (j : ℕ) → j < length records → ((k : ℕ) → k < j → recordOf records k .client ≡ recordOf records j .client → ⊥) → asks (recordOf records j .event) ≡ 0
+  pub next : (i j : ℕ) → Next records i j → asks (recordOf records j .event) ≡ leaves (recordOf records i .event)
+  -- no value is called to be added twice
+  pub once : (i j v : ℕ) → i < j → j < length records → recordOf records i .event ≡ CallAdd v → recordOf records j .event ≡ CallAdd v → ⊥
+
+-- A readable log, and its records.
+pub record ReadableLog (log : List ℕ) (records : List Record) : Type 0 where
+  pub partial : PartialLog log records
+  -- every remove has a return: its client's next record, which asks for a remove's call by `next`
+  pub returned : (i : ℕ) → i < length records → recordOf records i .event ≡ CallRemove → (j : ℕ) × Next records i j

@@ -31,7 +31,7 @@ valueBytes ReturnAdd = []
 valueBytes (ReturnRemove (Value v)) = bytesOf 4 v
 valueBytes (ReturnRemove Empty) = []
 
--- the event of a kind, with the value that kinds 1 and 4 carry
+-- the event of a known kind, with the value that kinds 1 and 4 carry; of an unknown kind it is of no interest
 unfoldable pub eventOf : ℕ → ℕ → Event
 eventOf kind v =
     if eqb kind 1 then CallAdd v else

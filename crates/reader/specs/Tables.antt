@@ -80,13 +80,14 @@ pub record Kept (past : List Record) (p : Progress) (clients codes values : List
   pub pending : PendingKept past (p .pending) clients codes
   pub added : AddedKept past (p .added) values
 
--- 6 to 9, as the tables have it
+-- 7 to 9, as the tables have it
 abbrev pub eventFaultIn : Event → ℕ → List ℕ → List ℕ → List ℕ → ℕ
 eventFaultIn (CallAdd v) client clients codes values = if isIn client clients then clientBusy else if isIn v values then addedTwice else 0
 eventFaultIn CallRemove client clients codes values = if isIn client clients then clientBusy else 0
 eventFaultIn ReturnAdd client clients codes values = if not (eqb (kindOfFound client clients codes) addCall) then nothingCalled else 0
 eventFaultIn (ReturnRemove x) client clients codes values = if not (eqb (kindOfFound client clients codes) removeCall) then nothingCalled else 0
 
+-- 6 to 9, as the tables have it
 unfoldable pub faultIn : Record → Progress → List ℕ → List ℕ → List ℕ → ℕ
 faultIn r p clients codes values =
     if ltb (r .tick) (p .tick) then tickFell else
@@ -97,7 +98,8 @@ pub record Begun (count client code : ℕ) (clients codes clients' codes' : List
   pub client-pushed : Pushed count client clients clients'
   pub code-pushed : Pushed count code codes codes'
 
--- The client's pending call, if it has one, is taken out of the tables, and `left` of them are left.
+-- The client's pending call is taken out of the tables, and `left` of them are left. Of a client without one nothing is said:
+-- a return by it is refused before.
 pub record Ended (count client : ℕ) (clients codes : List ℕ) (left : ℕ) (clients' codes' : List ℕ) : Type 0 where
   pub clients-sized : length clients' ≡ maxRecords
   pub codes-sized : length codes' ≡ maxRecords

@@ -24,7 +24,7 @@ pub enum Checked {
 }
 
 // The header, then the records: a log but for refusal 10.
-fn read_log(log: &[u8]) -> Survey
+fn read_partial(log: &[u8]) -> Survey
     ensures { λ r. ⌜ r ≡ surveyed (readPartial (now (log .entry))) ⌝ }
 {
     if log.len() < HEADER {
@@ -53,7 +53,7 @@ fn read_log(log: &[u8]) -> Survey
 pub fn check_partial(log: &[u8]) -> Checked
     ensures { λ r. ⌜ r ≡ checked (readPartial (now (log .entry))) ⌝ }
 {
-    match read_log(log) {
+    match read_partial(log) {
         Survey::Broken { number, index } => Checked::Refused { number, index },
         Survey::Whole {
             records,
@@ -70,7 +70,7 @@ pub fn check_partial(log: &[u8]) -> Checked
 pub fn check(log: &[u8]) -> Checked
     ensures { λ r. ⌜ r ≡ checked (readLog (now (log .entry))) ⌝ }
 {
-    match read_log(log) {
+    match read_partial(log) {
         Survey::Broken { number, index } => Checked::Refused { number, index },
         Survey::Whole {
             records,

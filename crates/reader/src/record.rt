@@ -50,7 +50,7 @@ fn length_of(kind: u8) -> u8
     }
 }
 
-// The event of the record at a position, whose kind is known and whose bytes are there.
+// The event of the record at a position, whose bytes are there. The caller has seen that the kind is known.
 fn event_at(log: &[u8], at: usize, kind: u8) -> Event
     requires { ⌜ at + 1 + lengthOf kind ≤ length (now log) ⌝ }
     ensures { λ r. ⌜ r ≡ eventOf kind (bigEndian (now (log .entry)) (at + 8) 4) ⌝ }

@@ -8,20 +8,19 @@ use Rattle.reader.specs.Log.{Reading, readable, refused, readLog, checked, oper
 use Rattle.reader.specs.Readable.{Within}
 use Rattle.reader.specs.declared.record.Record.{Record}
 use Rattle.reader.specs.declared.log.Checked.the-variants.{Refused}
-use Rattle.reader.proofs.Bounds.{log-within}
-use Rattle.reader.proofs.Keeping.{operations-few}
+use Rattle.reader.proofs.Laws.{within, few-operations}
 use Rattle.yauponroof.specs.Answer.{refusalUnit, answerOf}
 
 pub accepted : (log : List ℕ) (records : List Record) → readLog log ≡ readable records
     → (answerOf (checked (readLog log)) / refusalUnit ≡ 0) × (answerOf (checked (readLog log)) % refusalUnit ≡ operations records)
 accepted log records e =
-    let short : Within (readable records) = rw e at (log-within log) in
-    rw e (omega (arith, operations-few records))
+    let short : Within (readable records) = rw e at (within log) in
+    rw e (omega (arith, few-operations records))
 
 pub turned-down : (log : List ℕ) (number index : ℕ) → readLog log ≡ refused number index
-    → (answerOf (checked (readLog log)) / refusalUnit ≡ number) × (answerOf (checked (readLog log)) % refusalUnit ≡ index)
+    → (1 ≤ number) × (answerOf (checked (readLog log)) / refusalUnit ≡ number) × (answerOf (checked (readLog log)) % refusalUnit ≡ index)
 turned-down log number index e =
-    let small : Within (refused number index) = rw e at (log-within log) in
+    let small : Within (refused number index) = rw e at (within log) in
     rw e (omega arith)
 
 -- a refusal's index is small enough for the low half
@@ -30,4 +29,4 @@ index-small (readable records) w number index e = let z : _≡_ {A = ℕ} 0 1 = 
 index-small (refused n i) w number index e = let p : n ≡ number = cc in let q : i ≡ index = cc in omega arith
 
 pub refusal-fits : (log : List ℕ) {number index : ℕ} → checked (readLog log) ≡ Refused number index → (number ≤ 10) × (index ≤ 1024)
-refusal-fits log {number} {index} e = index-small (readLog log) (log-within log) number index e
+refusal-fits log {number} {index} e = index-small (readLog log) (within log) number index e

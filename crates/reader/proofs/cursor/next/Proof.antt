@@ -71,7 +71,7 @@ ReaderS = plain (λ κs. T.the-row (namedLft 2 1 tt κs))
 abbrev stayed : Stays (next.ended .signature .params) (next.ended .kept)
 stayed = (stay-ref (0 ∷ []) tt ReaderS, tt)
 
--- the contract that the proof cites
+-- what `step_at` promises
 abbrev StepAt : {M : Type 1} (𝓤 : URA M) (H : Heap 𝓤) (A : Atoms 𝓤) (mem : Memory → SProp 𝓤) (run : Routine → Fun 𝓤) → Contract 𝓤
 StepAt 𝓤 H A mem run = tripleOf 𝓤 H A step-at.signature (step-at.spec 𝓤 H A mem run)
 

@@ -53,14 +53,14 @@ use Rattle.reader.proofs.cursor.peek as peek
 use Rattle.reader.proofs.cursor.peek.Statement as stated
 use Rattle.reader.proofs.cursor.peek.Code as code
 
--- the struct's type, over the signature's lifetimes
+-- a `Reader` at the lifetime of the log
 abbrev R : Lfts 1 → RattleType
 R κs = T.the-row (namedLft 1 0 tt κs)
 
 abbrev stayed : Stays (peek.ended .signature .params) (peek.ended .kept)
 stayed = (stay-none R yes, tt)
 
--- the contract that the proof cites
+-- what `decode_at` promises
 abbrev DecodeAt : {M : Type 1} (𝓤 : URA M) (H : Heap 𝓤) (A : Atoms 𝓤) (mem : Memory → SProp 𝓤) (run : Routine → Fun 𝓤) → Contract 𝓤
 DecodeAt 𝓤 H A mem run = tripleOf 𝓤 H A decode-at.signature (decode-at.spec 𝓤 H A mem run)
 

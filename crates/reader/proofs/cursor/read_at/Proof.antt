@@ -58,14 +58,14 @@ use Rattle.reader.proofs.cursor.read_at as read-at
 use Rattle.reader.proofs.cursor.read_at.Statement as stated
 use Rattle.reader.proofs.cursor.read_at.Code as code
 
--- the struct's type, over the signature's lifetimes
+-- a `Reader` at the lifetime of the log
 abbrev R : Lfts 1 → RattleType
 R κs = T.the-row (namedLft 1 0 tt κs)
 
 abbrev stayed : Stays (read-at.ended .signature .params) (read-at.ended .kept)
 stayed = (stay-none-slice (0 ∷ []) tt (plain (λ _. u8)) yes, (stay-none (λ _. usize) yes, tt))
 
--- the contracts that the proof cites
+-- what the two callees promise
 module _ {M : Type 1} (𝓤 : URA M) (H : Heap 𝓤) (A : Atoms 𝓤) (mem : Memory → SProp 𝓤) (run : Routine → Fun 𝓤) where
   abbrev ReaderAt : Contract 𝓤
   ReaderAt = tripleOf 𝓤 H A reader-at.signature (reader-at.spec 𝓤 H A mem run)

@@ -1,4 +1,4 @@
--- `check_partial` meets its contract: the outcome of `read_log` is turned into the answer, whatever removes are pending.
+-- `check_partial` meets its contract: the outcome of `read_partial` is turned into the answer, whatever removes are pending.
 use Rattle.reader.proofs.Scanning.{partly, partly-checked}
 use Rattle.reader.specs.Log.{readPartial}
 use mathlib.Core.Path.{sym, ap, _∙_}
@@ -6,8 +6,8 @@ use borrow.Author.Needs.{needs}
 use Rattle.reader.proofs.log.check_partial.Statement.{statement}
 use Rattle.reader.proofs.log.check_partial.Tie as tie
 
-read-log-requires : tie.Need-read-log-requires
-read-log-requires c κs = search needs
+read-partial-requires : tie.Need-read-partial-requires
+read-partial-requires c κs = search needs
 
 enum-known-number : tie.Need-enum-known-number
 enum-known-number c = search needs
@@ -16,11 +16,11 @@ enum-known-records : tie.Need-enum-known-records
 enum-known-records c = search needs
 
 returns : tie.Need-returns
-returns c = ap partly (sym (c .before .number .given .1) ∙ c .before .before .before .read-log .ensures) ∙ partly-checked (readPartial _)
+returns c = ap partly (sym (c .before .number .given .1) ∙ c .before .before .before .read-partial .ensures) ∙ partly-checked (readPartial _)
 
 returns-2 : tie.Need-returns-2
-returns-2 c = ap partly (sym (c .before .records .given .1) ∙ c .before .before .before .read-log .ensures) ∙ partly-checked (readPartial _)
+returns-2 c = ap partly (sym (c .before .records .given .1) ∙ c .before .before .before .read-partial .ensures) ∙ partly-checked (readPartial _)
 
 pub check-partial-spec : {M : Type 1} → statement M
 check-partial-spec =
-    tie.close (tie.spec read-log-requires enum-known-number enum-known-records returns returns-2)
+    tie.close (tie.spec read-partial-requires enum-known-number enum-known-records returns returns-2)

@@ -1,9 +1,9 @@
--- `read_log` meets its contract: at each return the tests that led there say which case of `readPartial` holds.
+-- `read_partial` meets its contract: at each return the tests that led there say which case of `readPartial` holds.
 use Rattle.reader.specs.Log.{readPartial}
 use borrow.Author.Tests.{lt-ltb, le-ltb, eq-eqb, ne-eqb}
 use borrow.Author.Needs.{needs}
-use Rattle.reader.proofs.log.read_log.Statement.{statement}
-use Rattle.reader.proofs.log.read_log.Tie as tie
+use Rattle.reader.proofs.log.read_partial.Statement.{statement}
+use Rattle.reader.proofs.log.read_partial.Tie as tie
 
 returns : tie.Need-returns
 unfolding readPartial
@@ -33,8 +33,8 @@ returns-4 : tie.Need-returns-4
 unfolding readPartial
 returns-4 c = rw (le-ltb _ _ (c .before .before .before .before .before .if1 .left), eq-eqb _ _ (c .before .before .before .if2 .left), ← (c .before .before .be16 .ensures), le-ltb _ _ (c .before .if3 .left)) (c .read-records .ensures)
 
-pub read-log-spec : {M : Type 1} → statement M
-read-log-spec =
+pub read-partial-spec : {M : Type 1} → statement M
+read-partial-spec =
     tie.close
     (tie.spec
     returns
