@@ -40,13 +40,6 @@ pub fn reader_at<'a>(log: &'a [u8], at: usize) -> Reader<'a>
     Reader { log, at }
 }
 
-// What stands where the reader is.
-pub fn peek<'a>(r: Reader<'a>) -> Decoded
-    ensures { λ d. ⌜ d ≡ decodeAt (now (r .entry .log)) (r .entry .at) ⌝ }
-{
-    decode_at(r.log, r.at)
-}
-
 // The record where the reader is, with the reader moved behind it. A refusal leaves the reader where it was.
 pub fn next<'s, 'a>(r: &'s mut Reader<'a>) -> Decoded
     ensures { λ d. ⌜ (d ≡ decodeAt (now (now (r .entry) .log)) (now (r .entry) .at))
@@ -62,5 +55,6 @@ pub fn next<'s, 'a>(r: &'s mut Reader<'a>) -> Decoded
 pub fn read_at(log: &[u8], at: usize) -> Decoded
     ensures { λ d. ⌜ d ≡ decodeAt (now (log .entry)) at ⌝ }
 {
-    peek(reader_at(log, at))
+    let mut r = reader_at(log, at);
+    next(&mut r)
 }
