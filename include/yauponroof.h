@@ -31,7 +31,8 @@
  * Rules for every function
  * ------------------------
  * - Pointers are never NULL, not even with length 0.
- * - No function reads or writes outside the bytes that are lent to it.
+ * - No function reads or writes outside the bytes that are lent to it. An output buffer overlaps no
+ *   input.
  * - No function uses the heap or a global variable, or keeps a pointer it was given. Any number of
  *   threads may call at the same time, also on the same log, as long as none of them changes it.
  */
@@ -130,8 +131,7 @@ enum yr_refusal {
  *     1   bytes are left behind the last record (index n)
  *     10  a remove has no return (index of the earliest call of such a remove)
  *
- * Nothing is written. No byte outside the log_len bytes at log is read. No heap and no global
- * variable is used, and less than 16 KiB of stack (12.4 KB measured). Safe to call from any number of threads.
+ * Nothing is written. Less than 16 KiB of stack is used (12.4 KB measured).
  */
 yr_answer yr_check(const uint8_t *log, size_t log_len);
 

@@ -1,5 +1,5 @@
 /*
- * Logs for the C tests and the measurements. A log is written record by record into a lent buffer;
+ * Logs for the C tests and the measurements. A log is written record by record into a struct log;
  * the ticks rise by one.
  */
 

@@ -1,37 +1,24 @@
 -- Laws of the pending calls, and of the tables that hold them.
-use Prim.Native.Nat.{ℕ, zero, suc, _+_, _-_, _*_, _/_, _%_, _≤_, _<_}
+use Prim.Native.Nat.{ℕ, suc, _+_, _*_, _/_, _%_, _≤_, _<_}
 use native.Mathlib.Omega.{arith}
 use native.Mathlib.Nat.{lt-suc-self}
 use mathlib.Core.Path.{_≡_, refl, sym, ap, _∙_}
 use mathlib.Core.Bool.{Bool, true, false, not}
-use mathlib.Core.List.{List, [], _∷_, _++_, map, map-append, append-nil}
-use lib.ListN.{length, getD, take, drop, length-append, length-take, length-drop}
+use mathlib.Core.List.{List, [], _∷_, _++_, map, append-nil}
+use lib.ListN.{length, getD, length-append}
 use lib.Dec.{ltb, eqb, lit<, lit≤, leb·suc-suc}
 use borrow.Author.Tests.{lt-ltb, ne-eqb, eqb-true, eqb-false}
 use Rattle.reader.specs.Choice.{if_then_else_}
 use Rattle.reader.specs.Log.{Call, callOf, ofOthers, pendingCalls, pendingKind, earliestRemove, isIn}
-use Rattle.reader.specs.Tables.{position, without, code, kindOfFound, earliestCode}
+use Rattle.reader.specs.Tables.{position, without, clientsOf, code, kindOfFound, earliestCode}
 use Rattle.reader.specs.declared.record.Event.{Event}
 use Rattle.reader.specs.declared.record.Event.the-variants.{CallAdd, CallRemove, ReturnAdd, ReturnRemove}
 use Rattle.reader.specs.declared.record.Record.{Record}
 
-map-take : {A B : Type 0} (f : A → B) (k : ℕ) (xs : List A) → map f (take k xs) ≡ take k (map f xs)
-map-take f zero xs = refl
-map-take f (suc k) [] = refl
-map-take {B = B} f (suc k) (x ∷ xs) = ap (λ (ys : List B). f x ∷ ys) (map-take f k xs)
-
-map-drop : {A B : Type 0} (f : A → B) (k : ℕ) (xs : List A) → map f (drop k xs) ≡ drop k (map f xs)
-map-drop f zero xs = refl
-map-drop f (suc k) [] = refl
-map-drop f (suc k) (x ∷ xs) = map-drop f k xs
-
--- calls of kind 1 or 2, at most one for each client
+-- calls with a kind that fits their code, 1 to 3, at most one for each client
 pub data Sound : List Call → Type 0 where
   none : Sound []
   more : {call : Call} {calls : List Call} → 0 < call .kind → call .kind < 4 → pendingKind calls (call .client) ≡ 0 → Sound calls → Sound (call ∷ calls)
-
-clientsOf : List Call → List ℕ
-clientsOf calls = map (λ call. call .client) calls
 
 -- a client without a pending call has none to leave out
 pub others-all : (client : ℕ) (calls : List Call) → Sound calls → pendingKind calls client ≡ 0 → ofOthers client calls ≡ calls
@@ -86,7 +73,7 @@ call-few CallRemove client index = lit≤ tt
 call-few ReturnAdd client index = lit≤ tt
 call-few (ReturnRemove x) client index = lit≤ tt
 
--- the head's kind is not its pending call's if there is none
+-- a client without a pending call is not the first call's, nor has it one behind that
 head-differs : (call : Call) (calls : List Call) (client : ℕ) → 0 < call .kind → pendingKind (call ∷ calls) client ≡ 0 → (client ≡ call .client → ⊥) × (pendingKind calls client ≡ 0)
 unfolding pendingKind
 head-differs call calls client pos z = go (eqb (call .client) client) refl z
@@ -141,7 +128,7 @@ pending-few [] = omega arith
 pending-few (r ∷ past) = simp length-append (omega (arith, pending-few past, others-few (r .client) (pendingCalls past), call-few (r .event) (r .client) (length past)))
 
 -- the tables find a client's pending call
-pub kind-found : (client : ℕ) (calls : List Call) → Sound calls → kindOfFound client (map (λ call. call .client) calls) (map code calls) ≡ pendingKind calls client
+pub kind-found : (client : ℕ) (calls : List Call) → Sound calls → kindOfFound client (clientsOf calls) (map code calls) ≡ pendingKind calls client
 unfolding position pendingKind
 kind-found client [] s = refl
 kind-found client (call ∷ calls) (more pos small own s) = go (eqb (call .client) client) (kind-found client calls s)
@@ -149,33 +136,33 @@ kind-found client (call ∷ calls) (more pos small own s) = go (eqb (call .clien
     here : (call .index * 4 + call .kind) % 4 ≡ call .kind
     here = omega arith
 
-    go : (b : Bool) → kindOfFound client (map (λ call. call .client) calls) (map code calls) ≡ pendingKind calls client
-        → (if ltb (if b then 0 else suc (position client (map (λ call. call .client) calls))) (suc (length (map (λ call. call .client) calls)))
-        then getD (code call ∷ map code calls) (if b then 0 else suc (position client (map (λ call. call .client) calls))) 0 % 4 else 0)
+    go : (b : Bool) → kindOfFound client (clientsOf calls) (map code calls) ≡ pendingKind calls client
+        → (if ltb (if b then 0 else suc (position client (clientsOf calls))) (suc (length (clientsOf calls)))
+        then getD (code call ∷ map code calls) (if b then 0 else suc (position client (clientsOf calls))) 0 % 4 else 0)
         ≡ (if b then call .kind else pendingKind calls client)
-    go true ih = rw (lt-ltb 0 (suc (length (map (λ call. call .client) calls))) (omega arith)) here
+    go true ih = rw (lt-ltb 0 (suc (length (clientsOf calls))) (omega arith)) here
     go false ih = rw (leb·suc-suc _ _) ih
 
 -- the table of clients has those with a pending call
-pub client-in : (client : ℕ) (calls : List Call) → Sound calls → isIn client (map (λ call. call .client) calls) ≡ not (eqb (pendingKind calls client) 0)
+pub client-in : (client : ℕ) (calls : List Call) → Sound calls → isIn client (clientsOf calls) ≡ not (eqb (pendingKind calls client) 0)
 unfolding isIn pendingKind
 client-in client [] s = refl
 client-in client (call ∷ calls) (more pos small own s) = go (eqb (call .client) client) (client-in client calls s)
   where
-    go : (b : Bool) → isIn client (map (λ call. call .client) calls) ≡ not (eqb (pendingKind calls client) 0)
-        → (if b then true else isIn client (map (λ call. call .client) calls)) ≡ not (eqb (if b then call .kind else pendingKind calls client) 0)
+    go : (b : Bool) → isIn client (clientsOf calls) ≡ not (eqb (pendingKind calls client) 0)
+        → (if b then true else isIn client (clientsOf calls)) ≡ not (eqb (if b then call .kind else pendingKind calls client) 0)
     go true ih = rw (ne-eqb (call .kind) 0 (omega arith))
     go false ih = ih
 
 -- a client's pending call stands where the table of clients has it, and leaving the client out takes that one out
 pub others-without : (client : ℕ) (calls : List Call) → Sound calls → (pendingKind calls client ≡ 0 → ⊥)
-    → (position client (map (λ call. call .client) calls) < length calls) × (ofOthers client calls ≡ without (position client (map (λ call. call .client) calls)) calls)
+    → (position client (clientsOf calls) < length calls) × (ofOthers client calls ≡ without (position client (clientsOf calls)) calls)
 unfolding position pendingKind ofOthers
 others-without client [] s busy = absurd (busy refl)
 others-without client (call ∷ calls) (more pos small own s) busy = go (eqb (call .client) client) refl busy (others-without client calls s)
   where
     at : ℕ
-    at = position client (map (λ call. call .client) calls)
+    at = position client (clientsOf calls)
 
     go : (b : Bool) → eqb (call .client) client ≡ b → ((if b then call .kind else pendingKind calls client) ≡ 0 → ⊥)
         → ((pendingKind calls client ≡ 0 → ⊥) → (at < length calls) × (ofOthers client calls ≡ without at calls))
@@ -191,13 +178,6 @@ earliest-found (call ∷ calls) least (more pos small own s) =
     let kind : (call .index * 4 + call .kind) % 4 ≡ call .kind = omega arith in
     let index : (call .index * 4 + call .kind) / 4 ≡ call .index = omega arith in
     rw (kind, index, earliest-found calls least s)
-
--- a map goes past an entry taken out
-pub map-without : {A B : Type 0} (f : A → B) (k : ℕ) (xs : List A) → map f (without k xs) ≡ without k (map f xs)
-map-without f k xs = rw (map-append f (take k xs) (drop (suc k) xs), map-take f k xs, map-drop f (suc k) xs)
-
-pub length-without : {A : Type 0} (k : ℕ) (xs : List A) → k < length xs → length (without k xs) ≡ length xs - 1
-length-without k xs h = simp (length-append, length-take, length-drop) (omega arith)
 
 -- every call that is pending was made by one of the records
 pub data Below (n : ℕ) : List Call → Type 0 where

@@ -9,7 +9,7 @@ use mathlib.Core.List.{List, [], _∷_, _++_, reverse, reverse-cons}
 use lib.ListN.{length, length-reverse, List·getD-append}
 use lib.Seq.{getD-append-seam}
 use lib.Dec.{eqb}
-use borrow.Author.Tests.{eq-eqb, ne-eqb, eqb-true, eqb-false}
+use borrow.Author.Tests.{eq-eqb, ne-eqb}
 use Rattle.reader.specs.Choice.{if_then_else_}
 use Rattle.reader.specs.Log.{callOf, pendingCalls, pendingKind, earliestRemove, valueOf, addedValues, isIn, lastTick}
 use Rattle.reader.specs.Readable.{recordOf, asks, leaves, Next}
@@ -19,7 +19,7 @@ use Rattle.reader.specs.declared.record.Record.{Record}
 use Rattle.reader.proofs.Calls.{own-kind, other-kind, pending-below, earliest-below}
 use Rattle.reader.proofs.Faults.{no-fault}
 use Rattle.reader.proofs.Run.{Admits, none, more}
-use Rattle.reader.proofs.Search.{Lowest, None, lowest}
+use Rattle.reader.proofs.Search.{Lowest, Highest, None, lowest, highest, decEq}
 
 -- the record with an index among those of the past, which are latest first
 abbrev pub nth : List Record → ℕ → Record
@@ -193,29 +193,36 @@ once-law (r ∷ past) (more ok a) i j v l h ei ej = go (index (length past) j h)
         omega arith
     go (earlier b) ih = ih b was (rw (nth-earlier r past j b) at ej)
 
+-- a record has a next one of its client, or no later one
+pub follows-law : (records : List Record) (i : ℕ) → ((j : ℕ) × Next records i j) ⊎ ((k : ℕ) → i < k → k < length records → recordOf records k .client ≡ recordOf records i .client → ⊥)
+follows-law records i = go (lowest (λ k. (i < k) × (recordOf records k .client ≡ recordOf records i .client)) (λ k. both k (decLt i k) (decEq (recordOf records k .client) (recordOf records i .client))) (length records))
+  where
+    both : (k : ℕ) → Dec (i < k) → Dec (recordOf records k .client ≡ recordOf records i .client) → Dec ((i < k) × (recordOf records k .client ≡ recordOf records i .client))
+    both k (no l) e = no (λ p. l (p .0))
+    both k (yes l) (yes e) = yes (l, e)
+    both k (yes l) (no e) = no (λ p. e (p .1))
+
+    go : Lowest (λ k. (i < k) × (recordOf records k .client ≡ recordOf records i .client)) (length records) ⊎ None (λ k. (i < k) × (recordOf records k .client ≡ recordOf records i .client)) (length records)
+        → ((j : ℕ) × Next records i j) ⊎ ((k : ℕ) → i < k → k < length records → recordOf records k .client ≡ recordOf records i .client → ⊥)
+    go (inl s) = inl (s .at, record { later = s .holds .0; there = s .below; same = s .holds .1; between = λ k a b q. s .none-lower k b (a, q) })
+    go (inr alone) = inr (λ k a b q. alone k b (a, q))
+
+-- a record has one before it of its client, or is its first
+pub precedes-law : (records : List Record) (j : ℕ) → j < length records → ((i : ℕ) × Next records i j) ⊎ ((k : ℕ) → k < j → recordOf records k .client ≡ recordOf records j .client → ⊥)
+precedes-law records j h = go (highest (λ k. recordOf records k .client ≡ recordOf records j .client) (λ k. decEq (recordOf records k .client) (recordOf records j .client)) j)
+  where
+    go : Highest (λ k. recordOf records k .client ≡ recordOf records j .client) j ⊎ None (λ k. recordOf records k .client ≡ recordOf records j .client) j
+        → ((i : ℕ) × Next records i j) ⊎ ((k : ℕ) → k < j → recordOf records k .client ≡ recordOf records j .client → ⊥)
+    go (inl s) = inl (s .at, record { later = s .below; there = h; same = sym (s .holds); between = λ k a b q. s .none-higher k a b (q ∙ s .holds) })
+    go (inr first) = inr first
+
 -- without a pending remove, the call of a remove has a next record of its client
 pub returned-law : (past : List Record) → length past ≤ earliestRemove (pendingCalls past) (length past) → (i : ℕ) → i < length past → nth past i .event ≡ CallRemove
     → (j : ℕ) × Next (reverse past) i j
-returned-law past all-returned i h e = go (lowest (λ k. (i < k) × (nth past k .client ≡ nth past i .client)) decide (length past))
+returned-law past all-returned i h e = go (follows-law (reverse past) i)
   where
-    decide : (k : ℕ) → Dec ((i < k) × (nth past k .client ≡ nth past i .client))
-    decide k = both (decLt i k) (eqb (nth past k .client) (nth past i .client)) refl
-      where
-        both : Dec (i < k) → (t : Bool) → eqb (nth past k .client) (nth past i .client) ≡ t → Dec ((i < k) × (nth past k .client ≡ nth past i .client))
-        both (no l) t q = no (λ p. l (p .0))
-        both (yes l) true q = yes (l, eqb-true (nth past k .client) (nth past i .client) q)
-        both (yes l) false q = no (λ p. eqb-false (nth past k .client) (nth past i .client) q (p .1))
-
-    go : Lowest (λ k. (i < k) × (nth past k .client ≡ nth past i .client)) (length past) ⊎ None (λ k. (i < k) × (nth past k .client ≡ nth past i .client)) (length past) → (j : ℕ) × Next (reverse past) i j
-    go (inl s) = (
-      s .at,
-      record {
-        later = s .holds .0;
-        there = omega (arith, s .below, length-reverse past);
-        same = s .holds .1;
-        between = λ k a b q. s .none-lower k b (a, q);
-      },
-    )
+    go : ((j : ℕ) × Next (reverse past) i j) ⊎ ((k : ℕ) → i < k → k < length (reverse past) → nth past k .client ≡ nth past i .client → ⊥) → (j : ℕ) × Next (reverse past) i j
+    go (inl next) = next
     go (inr alone) =
-        let pending : pendingKind (pendingCalls past) (nth past i .client) ≡ 2 = kind-latest past i h (λ k a b q. alone k b (a, q)) ∙ ap leaves e in
+        let pending : pendingKind (pendingCalls past) (nth past i .client) ≡ 2 = kind-latest past i h (λ k a b q. alone k a (omega (arith, length-reverse past)) q) ∙ ap leaves e in
         absurd (omega (arith, earliest-below (pendingCalls past) (nth past i .client) (pending-below past) pending))

@@ -9,13 +9,14 @@ use lib.Dec.{ltb, eqb, lit≤}
 use Rattle.reader.specs.Choice.{if_then_else_}
 use Rattle.reader.specs.Log.{maxRecords, Call, callOf, pendingCalls, pendingKind, valueOf, addedValues, lastTick, isCall, operations, eventFault, fault}
 use Rattle.reader.specs.Readable.{asks}
-use Rattle.reader.specs.Tables.{position, without, code, eventFaultIn, faultIn, PendingKept, AddedKept, Room, Kept, Begun, Ended, Pushed}
+use Rattle.reader.specs.Tables.{position, without, clientsOf, code, eventFaultIn, faultIn, PendingKept, AddedKept, Room, Kept, Begun, Ended, Pushed}
 use Rattle.reader.specs.declared.record.Event.{Event}
 use Rattle.reader.specs.declared.record.Event.the-variants.{CallAdd, CallRemove, ReturnAdd, ReturnRemove}
 use Rattle.reader.specs.declared.record.Record.{Record}
 use Rattle.reader.specs.declared.scan.Progress.{Progress}
+use Rattle.reader.proofs.Lists.{map-without, length-without}
 use Rattle.reader.proofs.Faults.{no-fault}
-use Rattle.reader.proofs.Calls.{Sound, others-all, others-without, pending-sound, pending-few, kind-found, client-in, map-without, length-without}
+use Rattle.reader.proofs.Calls.{Sound, others-all, others-without, pending-sound, pending-few, kind-found, client-in}
 
 -- what the code finds wrong is what is wrong
 pub fault-found : {past : List Record} {p : Progress} {clients codes values : List ℕ} → Kept past p clients codes values → (r : Record) → faultIn r p clients codes values ≡ fault past r
@@ -30,7 +31,7 @@ fault-found {past} {p} {clients} {codes} {values} k r =
     sound : Sound calls
     sound = pending-sound past
 
-    go : (e : Event) → eventFaultIn e (r .client) (map (λ call. call .client) calls) (map code calls) (addedValues past) ≡ eventFault e (pendingKind calls (r .client)) (addedValues past)
+    go : (e : Event) → eventFaultIn e (r .client) (clientsOf calls) (map code calls) (addedValues past) ≡ eventFault e (pendingKind calls (r .client)) (addedValues past)
     go (CallAdd v) = rw (client-in (r .client) calls sound) refl
     go CallRemove = rw (client-in (r .client) calls sound) refl
     go ReturnAdd = ap (λ (k : ℕ). if not (eqb k 1) then 8 else 0) (kind-found (r .client) calls sound)
@@ -52,8 +53,8 @@ called past r kind call idle = rw (others-all (r .client) (pendingCalls past) (p
 
 -- a return takes its client's call out
 returned : (past : List Record) (r : Record) → (asks (r .event) ≡ 0 → ⊥) → pendingKind (pendingCalls past) (r .client) ≡ asks (r .event)
-    → (position (r .client) (map (λ call. call .client) (pendingCalls past)) < length (pendingCalls past))
-    × (pendingCalls (r ∷ past) ≡ without (position (r .client) (map (λ call. call .client) (pendingCalls past))) (pendingCalls past))
+    → (position (r .client) (clientsOf (pendingCalls past)) < length (pendingCalls past))
+    × (pendingCalls (r ∷ past) ≡ without (position (r .client) (clientsOf (pendingCalls past))) (pendingCalls past))
 unfolding pendingCalls
 returned past r n held =
     let out = others-without (r .client) (pendingCalls past) (pending-sound past) (λ z. n (sym held ∙ z)) in
@@ -122,7 +123,7 @@ module _ {past : List Record} (r : Record) where
       → pendingKind (pendingCalls past) (r .client) ≡ asks (r .event) → Ended count (r .client) clients codes left clients' codes' → PendingKept (r ∷ past) left clients' codes'
   pending-returned {count} {left} {clients} {codes} {clients'} {codes'} k n held e =
       let out = returned past r n held in
-      let at : position (r .client) (take count clients) ≡ position (r .client) (map (λ call. call .client) (pendingCalls past)) = ap (position (r .client)) (k .clients-are) in
+      let at : position (r .client) (take count clients) ≡ position (r .client) (clientsOf (pendingCalls past)) = ap (position (r .client)) (k .clients-are) in
       let there : position (r .client) (take count clients) < count = omega (arith, out .0, k .counted) in
       record {
         counted = rw (out .1, length-without _ (pendingCalls past) (out .0)) (omega (arith, e .counted there, k .counted));

@@ -3,22 +3,25 @@ use Prim.Native.Nat.{ℕ, _+_, _≤_, _<_}
 use native.Mathlib.Omega.{arith}
 use mathlib.Core.Path.{_≡_, refl}
 use mathlib.Core.Bool.{Bool, true, false}
+use mathlib.Core.Logic.{_⊎_, inl, inr}
 use mathlib.Core.List.{List, [], _++_, reverse-reverse}
 use lib.ListN.{length, length-reverse}
 use lib.Dec.{ltb}
 use borrow.Author.Tests.{ltb-false}
 use Rattle.reader.specs.Choice.{if_then_else_}
 use Rattle.reader.specs.Record.{encode, decodeAt}
-use Rattle.reader.specs.Log.{maxRecords, encodeLog, Reading, readable, refused, pendingCalls, earliestRemove, pendingRemove, readPartial, complete, readLog, operations}
-use Rattle.reader.specs.Readable.{Within, recordOf, sizeOf, Next, PartialLog, ReadableLog, Small, Writable}
+use Rattle.reader.specs.Log.{maxRecords, encodeLog, Reading, readable, refused, pendingCalls, earliestRemove, pendingRemove, readPartial, complete, readLog, operations, checked}
+use Rattle.reader.specs.Readable.{Within, recordOf, sizeOf, asks, Next, PartialLog, ReadableLog, Small, Writable}
 use Rattle.reader.specs.declared.record.Event.the-variants.{CallRemove}
 use Rattle.reader.specs.declared.record.Record.{Record}
 use Rattle.reader.specs.declared.record.Decoded.the-variants.{Found}
+use Rattle.reader.specs.declared.log.Checked.the-variants.{Readable, Refused}
 use Rattle.reader.proofs.Bounds.{partial-within, log-within}
 use Rattle.reader.proofs.Keeping.{operations-few}
+use Rattle.reader.proofs.Scanning.{operations-append}
 use Rattle.reader.proofs.Encoding.{decode-encodes, log-encodes}
 use Rattle.reader.proofs.Bytes.{count-law, few-law, stands-law, fills-law, short-law, bytes-law, writable-law}
-use Rattle.reader.proofs.Clients.{ticks-law, first-law, next-law, once-law, returned-law}
+use Rattle.reader.proofs.Clients.{ticks-law, first-law, next-law, once-law, follows-law, precedes-law, returned-law}
 use Rattle.reader.proofs.Run.{Admits, none, Read, reads, run-admits}
 
 -- what holds of the records as they were read, latest first, holds of the log's records
@@ -69,6 +72,31 @@ readable-log log records e =
     let read : Read log records = reads log records (whole .0) in
     record { partial = read-partial read; returned = read-returned read (whole .1) }
 
+-- a readable log is one that is readable but for 10
+pub readable-is-partial : (log : List ℕ) (records : List Record) → readLog log ≡ readable records → readPartial log ≡ readable records
+readable-is-partial log records e = completed (readPartial log) records e .0
+
+-- what the answer of a check says of the reading behind it
+pub checked-readable : (reading : Reading) {n m : ℕ} → checked reading ≡ Readable n m → (records : List Record) × (reading ≡ readable records) × (length records ≡ n) × (operations records ≡ m)
+checked-readable (readable records) e = (records, refl, cc, cc)
+checked-readable (refused number index) e = let z : _≡_ {A = ℕ} 0 1 = cc in absurd (omega arith)
+
+pub checked-refused : (reading : Reading) {number index : ℕ} → checked reading ≡ Refused number index → reading ≡ refused number index
+checked-refused (readable records) e = let z : _≡_ {A = ℕ} 0 1 = cc in absurd (omega arith)
+checked-refused (refused n i) {number} {index} e = let p : n ≡ number = cc in let q : i ≡ index = cc in rw (p, q) refl
+
+-- a record has a next one of its client, or no later one
+pub follows : (records : List Record) (i : ℕ) → ((j : ℕ) × Next records i j) ⊎ ((k : ℕ) → i < k → k < length records → recordOf records k .client ≡ recordOf records i .client → ⊥)
+follows = follows-law
+
+-- a return has its call before it: the record before it of its client, which leaves what the return asks for by `next`
+pub called : {log : List ℕ} {records : List Record} → PartialLog log records → (j : ℕ) → j < length records → (asks (recordOf records j .event) ≡ 0 → ⊥) → (i : ℕ) × Next records i j
+called {records = records} l j h n = go (precedes-law records j h)
+  where
+    go : ((i : ℕ) × Next records i j) ⊎ ((k : ℕ) → k < j → recordOf records k .client ≡ recordOf records j .client → ⊥) → (i : ℕ) × Next records i j
+    go (inl before) = before
+    go (inr alone) = absurd (n (l .first j h alone))
+
 -- the other direction: a record that is written is found where it stands
 pub written-record : (before after : List ℕ) (r : Record) → Small r → decodeAt (before ++ encode r ++ after) (length before) ≡ Found r (length before + sizeOf r)
 written-record = decode-encodes
@@ -87,3 +115,7 @@ within-partial = partial-within
 -- there are no more operations than records
 pub few-operations : (records : List Record) → operations records ≤ length records
 few-operations = operations-few
+
+-- the operations of records and of those behind them
+pub operations-join : (rs ss : List Record) → operations (rs ++ ss) ≡ operations rs + operations ss
+operations-join = operations-append

@@ -1,17 +1,17 @@
 -- Laws of the lists that the tables hold.
-use Prim.Native.Nat.{ℕ, suc, _+_, _-_, _/_, _%_, _≤_, _<_}
+use Prim.Native.Nat.{ℕ, zero, suc, _+_, _-_, _/_, _%_, _≤_, _<_}
 use native.Mathlib.Omega.{arith}
 use native.Mathlib.Numerals.{add-one}
 use mathlib.Core.Path.{_≡_, refl, ap, _∙_}
 use mathlib.Core.Bool.{Bool, true, false}
-use mathlib.Core.List.{List, [], _∷_, _++_, append-assoc, append-nil}
-use lib.ListN.{length, getD, set, take, drop, drop-of-length-le}
+use mathlib.Core.List.{List, [], _∷_, _++_, map, map-append, append-assoc, append-nil}
+use lib.ListN.{length, getD, set, take, drop, drop-of-length-le, length-append, length-take, length-drop}
 use lib.Seq.{take-suc, take-suc-set, take-set-lt, drop-cons, drop-set-lt, getD-take, length-take-le}
 use lib.Dec.{eqb}
 use borrow.Author.Tests.{lt-ltb, le-ltb, eq-eqb, ne-eqb}
 use Rattle.reader.specs.Choice.{if_then_else_}
 use Rattle.reader.specs.Log.{isIn}
-use Rattle.reader.specs.Tables.{position, kindOfFound, earliestCode}
+use Rattle.reader.specs.Tables.{position, without, kindOfFound, earliestCode}
 
 pub isIn-snoc : (v : ℕ) (xs : List ℕ) (y : ℕ) → isIn v (xs ++ (y ∷ [])) ≡ (if isIn v xs then true else eqb y v)
 unfolding isIn
@@ -103,3 +103,20 @@ shift-end t count i last long =
     let none : drop (suc i) (take count t) ≡ [] = drop-of-length-le (take count t) {i = suc i} (omega (arith, length-take-le count t long)) in
     let same : i ≡ count - 1 = omega arith in
     rw (none, append-nil (take i t), same)
+
+map-take : {A B : Type 0} (f : A → B) (k : ℕ) (xs : List A) → map f (take k xs) ≡ take k (map f xs)
+map-take f zero xs = refl
+map-take f (suc k) [] = refl
+map-take {B = B} f (suc k) (x ∷ xs) = ap (λ (ys : List B). f x ∷ ys) (map-take f k xs)
+
+map-drop : {A B : Type 0} (f : A → B) (k : ℕ) (xs : List A) → map f (drop k xs) ≡ drop k (map f xs)
+map-drop f zero xs = refl
+map-drop f (suc k) [] = refl
+map-drop f (suc k) (x ∷ xs) = map-drop f k xs
+
+-- a map goes past an entry taken out
+pub map-without : {A B : Type 0} (f : A → B) (k : ℕ) (xs : List A) → map f (without k xs) ≡ without k (map f xs)
+map-without f k xs = rw (map-append f (take k xs) (drop (suc k) xs), map-take f k xs, map-drop f (suc k) xs)
+
+pub length-without : {A : Type 0} (k : ℕ) (xs : List A) → k < length xs → length (without k xs) ≡ length xs - 1
+length-without k xs h = simp (length-append, length-take, length-drop) (omega arith)

@@ -23,13 +23,13 @@ use Rattle.reader.specs.declared.log.Checked.the-variants.{Readable, Ref
 use Rattle.reader.proofs.Keeping.{fault-found, has-room, keeps-none}
 use Rattle.reader.proofs.Calls.{pending-sound, pending-few, earliest-found}
 
-operations-append : (rs ss : List Record) → operations (rs ++ ss) ≡ operations rs + operations ss
+pub operations-append : (rs ss : List Record) → operations (rs ++ ss) ≡ operations rs + operations ss
 unfolding operations
 operations-append [] ss = omega arith
 operations-append (r ∷ rs) ss = omega (arith, operations-append rs ss)
 
 -- the number of operations does not ask for the records' sequence
-pub operations-reverse : (rs : List Record) → operations (reverse rs) ≡ operations rs
+operations-reverse : (rs : List Record) → operations (reverse rs) ≡ operations rs
 unfolding operations
 operations-reverse [] = refl
 operations-reverse (r ∷ rs) = rw (reverse-cons, operations-append) (omega (arith, operations-reverse rs))

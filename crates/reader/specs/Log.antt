@@ -7,7 +7,7 @@ use lib.ListN.{length, getD}
 use lib.Dec.{ltb, eqb}
 use Rattle.reader.specs.Choice.{if_then_else_}
 use Rattle.reader.specs.Number.{bigEndian, bytesOf}
-use Rattle.reader.specs.Refusal.{malformed, wrongVersion, tooManyRecords, tickFell, clientBusy, nothingCalled, addedTwice, removePending}
+use Rattle.reader.specs.Refusal.{wrongBytes, wrongVersion, tooManyRecords, tickFell, clientBusy, noSuchCall, addedTwice, removePending}
 use Rattle.reader.specs.Record.{encode, decodeAt}
 use Rattle.reader.specs.declared.record.Event.{Event}
 use Rattle.reader.specs.declared.record.Event.the-variants.{CallAdd, CallRemove, ReturnAdd, ReturnRemove}
@@ -101,8 +101,8 @@ lastTick (r ∷ past) = r .tick
 unfoldable pub eventFault : Event → ℕ → List ℕ → ℕ
 eventFault (CallAdd v) pending values = if not (eqb pending 0) then clientBusy else if isIn v values then addedTwice else 0
 eventFault CallRemove pending values = if not (eqb pending 0) then clientBusy else 0
-eventFault ReturnAdd pending values = if not (eqb pending addCall) then nothingCalled else 0
-eventFault (ReturnRemove x) pending values = if not (eqb pending removeCall) then nothingCalled else 0
+eventFault ReturnAdd pending values = if not (eqb pending addCall) then noSuchCall else 0
+eventFault (ReturnRemove x) pending values = if not (eqb pending removeCall) then noSuchCall else 0
 
 -- 6 to 9: what is wrong with a record behind those before it; 0 for nothing
 unfoldable pub fault : List Record → Record → ℕ
@@ -110,7 +110,7 @@ fault past r =
     if ltb (r .tick) (lastTick past) then tickFell else
     eventFault (r .event) (pendingKind (pendingCalls past) (r .client)) (addedValues past)
 
--- what a log is read as: its records, first to last, or a refusal with its number and index
+-- what a log is read as: its records, first to last, or a refusal with its number and index (of `readPartial` below: readable but for 10)
 pub data Reading : Type 0 where
   readable : List Record → Reading
   refused : ℕ → ℕ → Reading
@@ -125,7 +125,7 @@ unlessFault number index rest = if eqb number 0 then rest else refused number in
 
 -- the records from position `at` on, `left` of them, behind those of the past
 unfoldable pub scan : List ℕ → ℕ → ℕ → List Record → Reading
-scan log zero at past = if ltb at (length log) then refused malformed (length past) else readable (reverse past)
+scan log zero at past = if ltb at (length log) then refused wrongBytes (length past) else readable (reverse past)
 scan log (suc left) at past =
     afterDecode (decodeAt log at) (length past)
     (λ r next. unlessFault (fault past r) (length past) (scan log left next (r ∷ past)))
@@ -133,7 +133,7 @@ scan log (suc left) at past =
 -- a log but for 10
 unfoldable pub readPartial : List ℕ → Reading
 readPartial log =
-    if ltb (length log) headerLength then refused malformed 0 else
+    if ltb (length log) headerLength then refused wrongBytes 0 else
     if not (eqb (getD log 0 0) logVersion) then refused wrongVersion 0 else
     if ltb maxRecords (countField log) then refused tooManyRecords 0 else
     scan log (countField log) headerLength []

@@ -4,6 +4,7 @@ use Prim.Native.Nat.{ℕ, _+_, _≤_, _<_}
 use mathlib.Core.Path.{_≡_}
 use mathlib.Core.List.{List, [], _∷_}
 use lib.ListN.{length, getD, take}
+use Rattle.reader.specs.Refusal.{removePending}
 use Rattle.reader.specs.Record.{kindOf, lengthOf, decodeAt}
 use Rattle.reader.specs.Log.{logVersion, headerLength, maxRecords, maxLength, addCall, removeCall, countField, Reading, readable, refused, fault, encodeLog}
 use Rattle.reader.specs.declared.record.Removed.the-variants.{Value, Empty}
@@ -15,7 +16,7 @@ use Rattle.reader.specs.declared.record.Decoded.the-variants.{Found}
 -- A log that is read has at most 1,024 records, and a refusal a number from 1 to 10 and an index of at most 1,024.
 abbrev pub Within : Reading → Type 0
 Within (readable records) = length records ≤ maxRecords
-Within (refused number index) = (1 ≤ number) × (number ≤ 10) × (index ≤ maxRecords)
+Within (refused number index) = (1 ≤ number) × (number ≤ removePending) × (index ≤ maxRecords)
 
 -- every element is a byte
 abbrev pub Bytes : List ℕ → Type 0
@@ -93,7 +94,8 @@ pub record PartialLog (log : List ℕ) (records : List Record) : Type 0 where
   pub writable : Bytes log → Writable [] records
   -- "Ticks are checked not to fall."
   pub ticks : (i j : ℕ) → i ≤ j → j < length records → recordOf records i .tick ≤ recordOf records j .tick
-  -- a client's records go call, return, call, ..: the first is a call; a return that its call asks for follows a call, and a call follows a return
+  -- a client's records go call, return, call, ..: the first asks for no pending call, and each later one for what the one
+  -- before it leaves, so that a return follows a call of its operation and a call follows a return
   pub first : (j : ℕ) → j < length records → ((k : ℕ) → k < j → recordOf records k .client ≡ recordOf records j .client → ⊥) → asks (recordOf records j .event) ≡ 0
   pub next : (i j : ℕ) → Next records i j → asks (recordOf records j .event) ≡ leaves (recordOf records i .event)
   -- no value is called to be added twice

@@ -7,7 +7,7 @@ use lib.ListN.{length, getD}
 use lib.Dec.{ltb, leb, eqb}
 use Rattle.reader.specs.Choice.{if_then_else_}
 use Rattle.reader.specs.Number.{bigEndian, bytesOf}
-use Rattle.reader.specs.Refusal.{malformed, unknownKind, wrongLength}
+use Rattle.reader.specs.Refusal.{wrongBytes, unknownKind, wrongLength}
 use Rattle.reader.specs.declared.record.Removed.the-variants.{Value, Empty}
 use Rattle.reader.specs.declared.record.Event.{Event}
 use Rattle.reader.specs.declared.record.Event.the-variants.{CallAdd, CallRemove, ReturnAdd, ReturnRemove}
@@ -65,8 +65,8 @@ recordAt bytes at = record {
 -- what stands at a position: a record and where the next one starts, or a refusal, in the document's order: 1, L = 0, 4, 5
 unfoldable pub decodeAt : List ℕ → ℕ → Decoded
 decodeAt bytes at =
-    if leb (length bytes) at then Malformed malformed else
-    if ltb (length bytes - (at + 1)) (getD bytes at 0) then Malformed malformed else
+    if leb (length bytes) at then Malformed wrongBytes else
+    if ltb (length bytes - (at + 1)) (getD bytes at 0) then Malformed wrongBytes else
     if eqb (getD bytes at 0) 0 then Malformed wrongLength else
     if eqb (lengthOf (getD bytes (at + 1) 0)) 0 then Malformed unknownKind else
     if not (eqb (getD bytes at 0) (lengthOf (getD bytes (at + 1) 0))) then Malformed wrongLength else

@@ -7,7 +7,7 @@ use lib.ListN.{length, getD, take, drop}
 use lib.Dec.{ltb, eqb}
 use Rattle.reader.specs.Choice.{if_then_else_}
 use Rattle.reader.specs.Log.{maxRecords, addCall, removeCall, Call, Reading, readable, refused, pendingCalls, addedValues, lastTick, operations, pendingRemove, isIn, fault, scan}
-use Rattle.reader.specs.Refusal.{tickFell, clientBusy, nothingCalled, addedTwice}
+use Rattle.reader.specs.Refusal.{tickFell, clientBusy, noSuchCall, addedTwice}
 use Rattle.reader.specs.declared.record.Event.{Event}
 use Rattle.reader.specs.declared.record.Event.the-variants.{CallAdd, CallRemove, ReturnAdd, ReturnRemove}
 use Rattle.reader.specs.declared.record.Record.{Record}
@@ -25,6 +25,10 @@ position x (y ∷ ys) = if eqb y x then 0 else suc (position x ys)
 -- a list without what stands at an index
 abbrev pub without : {A : Type 0} → ℕ → List A → List A
 without k xs = take k xs ++ drop (suc k) xs
+
+-- the clients of calls
+abbrev pub clientsOf : List Call → List ℕ
+clientsOf calls = map (λ call. call .client) calls
 
 -- the index and the kind of a call as one number
 abbrev pub code : Call → ℕ
@@ -62,7 +66,7 @@ pub record Room (p : Progress) (clients codes values : List ℕ) : Type 0 where
 -- The tables hold the clients and the codes of the calls that are pending after the past.
 pub record PendingKept (past : List Record) (count : ℕ) (clients codes : List ℕ) : Type 0 where
   pub counted : count ≡ length (pendingCalls past)
-  pub clients-are : take count clients ≡ map (λ call. call .client) (pendingCalls past)
+  pub clients-are : take count clients ≡ clientsOf (pendingCalls past)
   pub codes-are : take count codes ≡ map code (pendingCalls past)
   pub clients-sized : length clients ≡ maxRecords
   pub codes-sized : length codes ≡ maxRecords
@@ -84,8 +88,8 @@ pub record Kept (past : List Record) (p : Progress) (clients codes values : List
 abbrev pub eventFaultIn : Event → ℕ → List ℕ → List ℕ → List ℕ → ℕ
 eventFaultIn (CallAdd v) client clients codes values = if isIn client clients then clientBusy else if isIn v values then addedTwice else 0
 eventFaultIn CallRemove client clients codes values = if isIn client clients then clientBusy else 0
-eventFaultIn ReturnAdd client clients codes values = if not (eqb (kindOfFound client clients codes) addCall) then nothingCalled else 0
-eventFaultIn (ReturnRemove x) client clients codes values = if not (eqb (kindOfFound client clients codes) removeCall) then nothingCalled else 0
+eventFaultIn ReturnAdd client clients codes values = if not (eqb (kindOfFound client clients codes) addCall) then noSuchCall else 0
+eventFaultIn (ReturnRemove x) client clients codes values = if not (eqb (kindOfFound client clients codes) removeCall) then noSuchCall else 0
 
 -- 6 to 9, as the tables have it
 unfoldable pub faultIn : Record → Progress → List ℕ → List ℕ → List ℕ → ℕ

@@ -1,5 +1,5 @@
-// A reader runs along a log's bytes and remembers how far it has come. The functions over `Reader` are thin: each takes it
-// apart and leaves the work to a function on the slice and the number.
+// A reader runs along a log's bytes and remembers how far it has come, its offset. The functions over it are thin: the work
+// is done by a function on the slice and the number.
 ghost use mathlib.Core.Path.{_≡_};
 ghost use Rattle.reader.specs.Record.{decodeAt};
 ghost use Rattle.reader.specs.Cursor.{behind};
@@ -11,7 +11,7 @@ pub struct Reader<'a> {
     pub at: usize,
 }
 
-// What stands at an offset, and the offset behind it.
+// What stands at an offset, and how far a reader that was there has then come.
 pub struct Advance {
     pub decoded: Decoded,
     pub at: usize,

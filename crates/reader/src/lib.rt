@@ -1,5 +1,6 @@
 // The log format of document 01: one record, a whole log, refusals 1 to 10.
 pub mod cursor;
+pub mod format;
 pub mod log;
 mod number;
 mod pending;

@@ -2,22 +2,18 @@
 ghost use mathlib.Core.Path.{_≡_};
 ghost use Rattle.reader.specs.Log.{readPartial, readLog, checked};
 ghost use Rattle.reader.specs.Tables.{surveyed};
+use crate::format::HEADER;
+use crate::format::MAX_RECORDS;
+use crate::format::VERSION;
 use crate::number::be16;
-use crate::refusal::MALFORMED;
 use crate::refusal::REMOVE_PENDING;
 use crate::refusal::TOO_MANY_RECORDS;
+use crate::refusal::WRONG_BYTES;
 use crate::refusal::WRONG_VERSION;
 use crate::scan::Survey;
 use crate::scan::read_records;
 
-// The version byte, the bytes of the header, and the most records that a log may have.
-pub const VERSION: u8 = 1;
-
-pub const HEADER: usize = 3;
-
-pub const MAX_RECORDS: usize = 1024;
-
-// The answer of a check.
+// The answer of a check; of `check_partial`, readable means readable but for 10.
 pub enum Checked {
     Readable { records: usize, operations: usize },
     Refused { number: u32, index: usize },
@@ -29,7 +25,7 @@ fn read_partial(log: &[u8]) -> Survey
 {
     if log.len() < HEADER {
         return Survey::Broken {
-            number: MALFORMED,
+            number: WRONG_BYTES,
             index: 0,
         };
     }

@@ -1,7 +1,7 @@
 // Big-endian unsigned fields of a byte slice.
 ghost use mathlib.Core.Path.{_≡_};
 ghost use Prim.Native.Nat.{_+_, _≤_, _<_};
-ghost use lib.ListN.{length, getD};
+ghost use lib.ListN.{length};
 ghost use Rattle.reader.specs.Number.{bigEndian};
 
 // A byte as a wider number. It takes the bound of a byte off its callers.
@@ -11,7 +11,7 @@ fn wide(x: u8) -> u32
     x as u32
 }
 
-// A number as a size.
+// A number as a size, where its bound as a u32 is not at hand.
 pub fn size(x: u32) -> usize
     ensures { λ r. ⌜ r ≡ x ⌝ }
 {

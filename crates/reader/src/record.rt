@@ -1,13 +1,13 @@
 // One record of a log: what it holds, and the record that stands at a position. What is right is said in specs/Record.antt.
 ghost use mathlib.Core.Path.{_≡_};
 ghost use Prim.Native.Nat.{_+_, _≤_};
-ghost use lib.ListN.{length, getD};
+ghost use lib.ListN.{length};
 ghost use Rattle.reader.specs.Number.{bigEndian};
-ghost use Rattle.reader.specs.Record.{lengthOf, eventOf, recordAt, decodeAt};
+ghost use Rattle.reader.specs.Record.{lengthOf, eventOf, decodeAt};
 use crate::number::be16;
 use crate::number::be32;
-use crate::refusal::MALFORMED;
 use crate::refusal::UNKNOWN_KIND;
+use crate::refusal::WRONG_BYTES;
 use crate::refusal::WRONG_LENGTH;
 
 // What a remove came back with: a value, or the mark empty.
@@ -69,12 +69,12 @@ pub fn decode_at(log: &[u8], at: usize) -> Decoded
     ensures { λ r. ⌜ r ≡ decodeAt (now (log .entry)) at ⌝ }
 {
     if log.len() <= at {
-        return Decoded::Malformed(MALFORMED);
+        return Decoded::Malformed(WRONG_BYTES);
     }
     let start = at + 1;
     let length = log[at];
     if log.len() - start < length as usize {
-        return Decoded::Malformed(MALFORMED);
+        return Decoded::Malformed(WRONG_BYTES);
     }
     if length == 0 {
         return Decoded::Malformed(WRONG_LENGTH);

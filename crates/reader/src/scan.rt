@@ -6,8 +6,8 @@ ghost use Prim.Native.Nat.{_≤_, _<_};
 ghost use Rattle.reader.specs.Log.{headerLength, maxRecords, scan};
 ghost use Rattle.reader.specs.Tables.{Room, Admitted, Stepped, faultIn, surveyed};
 use crate::cursor::read_at;
-use crate::log::HEADER;
-use crate::log::MAX_RECORDS;
+use crate::format::HEADER;
+use crate::format::MAX_RECORDS;
 use crate::pending::ADD_CALL;
 use crate::pending::REMOVE_CALL;
 use crate::pending::begin_call;
@@ -19,9 +19,9 @@ use crate::record::Event;
 use crate::record::Record;
 use crate::refusal::ADDED_TWICE;
 use crate::refusal::CLIENT_BUSY;
-use crate::refusal::MALFORMED;
-use crate::refusal::NOTHING_CALLED;
+use crate::refusal::NO_SUCH_CALL;
 use crate::refusal::TICK_FELL;
+use crate::refusal::WRONG_BYTES;
 use crate::table::Table;
 use crate::table::contains;
 use crate::table::push;
@@ -85,13 +85,13 @@ fn fault(r: Record, p: Progress, clients: &Table, codes: &Table, values: &Table)
         }
         Event::ReturnAdd => {
             if pending_kind(clients, codes, pending, client) != ADD_CALL {
-                return NOTHING_CALLED;
+                return NO_SUCH_CALL;
             }
             0
         }
         Event::ReturnRemove(_) => {
             if pending_kind(clients, codes, pending, client) != REMOVE_CALL {
-                return NOTHING_CALLED;
+                return NO_SUCH_CALL;
             }
             0
         }
@@ -209,7 +209,7 @@ pub fn read_records(log: &[u8], count: usize) -> Survey
     let at = p.at;
     if at < log.len() {
         return Survey::Broken {
-            number: MALFORMED,
+            number: WRONG_BYTES,
             index: count,
         };
     }

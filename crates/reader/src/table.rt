@@ -5,7 +5,7 @@ ghost use Prim.Native.Nat.{_-_, _<_};
 ghost use lib.ListN.{length, take};
 ghost use Rattle.reader.specs.Log.{maxRecords, isIn};
 ghost use Rattle.reader.specs.Tables.{Fits, Pushed, position, without};
-use crate::log::MAX_RECORDS;
+use crate::format::MAX_RECORDS;
 
 pub type Table = [u32; MAX_RECORDS];
 

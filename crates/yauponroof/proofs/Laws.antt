@@ -4,11 +4,11 @@ use Prim.Native.Nat.{ℕ, _/_, _%_, _≤_}
 use native.Mathlib.Omega.{arith}
 use mathlib.Core.Path.{_≡_}
 use mathlib.Core.List.{List}
-use Rattle.reader.specs.Log.{Reading, readable, refused, readLog, checked, operations}
+use Rattle.reader.specs.Log.{readable, refused, readLog, checked, operations}
 use Rattle.reader.specs.Readable.{Within}
 use Rattle.reader.specs.declared.record.Record.{Record}
 use Rattle.reader.specs.declared.log.Checked.the-variants.{Refused}
-use Rattle.reader.proofs.Laws.{within, few-operations}
+use Rattle.reader.proofs.Laws.{within, checked-refused, few-operations}
 use Rattle.yauponroof.specs.Answer.{refusalUnit, answerOf}
 
 pub accepted : (log : List ℕ) (records : List Record) → readLog log ≡ readable records
@@ -24,9 +24,7 @@ turned-down log number index e =
     rw e (omega arith)
 
 -- a refusal's index is small enough for the low half
-index-small : (reading : Reading) → Within reading → (number index : ℕ) → checked reading ≡ Refused number index → (number ≤ 10) × (index ≤ 1024)
-index-small (readable records) w number index e = let z : _≡_ {A = ℕ} 0 1 = cc in absurd (omega arith)
-index-small (refused n i) w number index e = let p : n ≡ number = cc in let q : i ≡ index = cc in omega arith
-
 pub refusal-fits : (log : List ℕ) {number index : ℕ} → checked (readLog log) ≡ Refused number index → (number ≤ 10) × (index ≤ 1024)
-refusal-fits log {number} {index} e = index-small (readLog log) (within log) number index e
+refusal-fits log {number} {index} e =
+    let small : Within (refused number index) = rw (checked-refused (readLog log) e) at (within log) in
+    omega arith

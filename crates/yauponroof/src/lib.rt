@@ -7,7 +7,8 @@ ghost use Rattle.yauponroof.specs.Answer.{answerOf};
 use reader::log::Checked;
 use reader::log::check;
 
-const REFUSED: u64 = 4294967296;
+// What a refusal's number is multiplied by: it stands in the high 32 bits.
+const REFUSAL_UNIT: u64 = 4294967296;
 
 // Checks a log. Returns the number of its operations, or a refusal from 1 to 10.
 #[no_mangle]
@@ -19,6 +20,6 @@ pub extern "C" fn yr_check(log: &[u8]) -> u64
             records: _,
             operations,
         } => operations as u64,
-        Checked::Refused { number, index } => (number as u64) * REFUSED + index as u64,
+        Checked::Refused { number, index } => (number as u64) * REFUSAL_UNIT + index as u64,
     }
 }
