@@ -22,7 +22,7 @@ use Rattle.reader.proofs.Records.{kind-back, event-least, event-most, v
 use Rattle.reader.proofs.Run.{Run, done, more, Read}
 
 -- a record stands at a position: its bytes are there, its fields are those bytes, and the next position is where it ends
-pub record Stood (log : List ℕ) (at : ℕ) (r : Record) (next : ℕ) : Type 0 where
+record Stood (log : List ℕ) (at : ℕ) (r : Record) (next : ℕ) : Type 0 where
   pub inside : at < length log
   pub fits : at + sizeOf r ≤ length log
   pub long : getD log at 0 ≡ lengthOf (kindOf (r .event))
@@ -33,7 +33,7 @@ pub record Stood (log : List ℕ) (at : ℕ) (r : Record) (next : ℕ) : Type 0 
   pub ends : next ≡ at + sizeOf r
 
 -- a record that is found stands there
-pub decode-inverts : (log : List ℕ) (at : ℕ) {r : Record} {next : ℕ} → decodeAt log at ≡ Found r next → Stood log at r next
+decode-inverts : (log : List ℕ) (at : ℕ) {r : Record} {next : ℕ} → decodeAt log at ≡ Found r next → Stood log at r next
 unfolding decodeAt
 decode-inverts log at {r} {next} e =
     go (leb (length log) at) (ltb (length log - (at + 1)) (getD log at 0)) (eqb (getD log at 0) 0) (eqb (lengthOf kind) 0) (eqb (getD log at 0) (lengthOf kind)) refl refl refl refl e
@@ -77,7 +77,7 @@ joined : (log : List ℕ) (at next n m : ℕ) → next ≡ at + n → take n (dr
 joined log at next n m e = rw (e, take-add n m (drop at log), drop-drop)
 
 -- a record that stands in a list of bytes, put back into bytes, is the bytes that stand there
-pub record-back : {log : List ℕ} {at next : ℕ} {r : Record} → Stood log at r next → Bytes log → encode r ≡ take (sizeOf r) (drop at log)
+record-back : {log : List ℕ} {at next : ℕ} {r : Record} → Stood log at r next → Bytes log → encode r ≡ take (sizeOf r) (drop at log)
 unfolding encode
 record-back {log} {at} {next} {r} s b =
     let least = event-least (r .event) in

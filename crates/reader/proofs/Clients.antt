@@ -1,16 +1,15 @@
 -- The records of a readable log, one after the other: ticks, the turns of each client, the values added.
-use Prim.Native.Nat.{ℕ, suc, _≤_, _<_}
+use Prim.Native.Nat.{ℕ, _≤_, _<_}
 use native.Mathlib.Omega.{arith}
 use native.Mathlib.Decide.{decLt}
+use native.Mathlib.Nat.{eq-or-lt-of-le}
 use mathlib.Core.Path.{_≡_, refl, sym, ap, _∙_}
 use mathlib.Core.Bool.{Bool, true, false}
 use mathlib.Core.Logic.{_⊎_, inl, inr}
 use mathlib.Core.List.{List, [], _∷_, _++_, reverse, reverse-cons}
 use lib.ListN.{length, length-reverse, List·getD-append}
 use lib.Seq.{getD-append-seam}
-use lib.Dec.{eqb}
 use borrow.Author.Tests.{eq-eqb, ne-eqb}
-use Rattle.reader.specs.Choice.{if_then_else_}
 use Rattle.reader.specs.Log.{callOf, pendingCalls, pendingKind, earliestRemove, valueOf, addedValues, isIn, lastTick}
 use Rattle.reader.specs.Readable.{recordOf, asks, leaves, Next}
 use Rattle.reader.specs.declared.record.Event.{Event}
@@ -18,6 +17,7 @@ use Rattle.reader.specs.declared.record.Event.the-variants.{CallAdd, Cal
 use Rattle.reader.specs.declared.record.Record.{Record}
 use Rattle.reader.proofs.Calls.{own-kind, other-kind, pending-below, earliest-below}
 use Rattle.reader.proofs.Faults.{no-fault}
+use Rattle.reader.proofs.Lists.{isIn-append, isIn-last}
 use Rattle.reader.proofs.Run.{Admits, none, more}
 use Rattle.reader.proofs.Search.{Lowest, Highest, None, lowest, highest, decEq}
 
@@ -25,42 +25,30 @@ use Rattle.reader.proofs.Search.{Lowest, Highest, None, lowest, highest
 abbrev pub nth : List Record → ℕ → Record
 nth past i = recordOf (reverse past) i
 
-pub nth-last : (r : Record) (past : List Record) → nth (r ∷ past) (length past) ≡ r
+nth-last : (r : Record) (past : List Record) → nth (r ∷ past) (length past) ≡ r
 nth-last r past =
     let at-seam : recordOf (reverse past ++ (r ∷ [])) (length (reverse past)) ≡ r = getD-append-seam (reverse past) r [] _ in
     rw reverse-cons (rw (length-reverse past) at at-seam)
 
-pub nth-earlier : (r : Record) (past : List Record) (i : ℕ) → i < length past → nth (r ∷ past) i ≡ nth past i
+nth-earlier : (r : Record) (past : List Record) (i : ℕ) → i < length past → nth (r ∷ past) i ≡ nth past i
 nth-earlier r past i h = rw reverse-cons (List·getD-append (reverse past) (r ∷ []) _ i (omega (arith, length-reverse past)))
-
--- an index among one record more: it is the last, or an earlier one
-data Index (n i : ℕ) : Type 0 where
-  last : i ≡ n → Index n i
-  earlier : i < n → Index n i
-
-index : (n i : ℕ) → i < suc n → Index n i
-index n i h = go (decLt i n)
-  where
-    go : Dec (i < n) → Index n i
-    go (yes l) = earlier l
-    go (no l) = last (omega arith)
 
 tick-last : (past : List Record) → Admits past → (i : ℕ) → i < length past → nth past i .tick ≤ lastTick past
 tick-last [] none i h = absurd (omega arith)
-tick-last (r ∷ past) (more ok a) i h = go (index (length past) i h) (tick-last past a i)
+tick-last (r ∷ past) (more ok a) i h = go (eq-or-lt-of-le (omega arith)) (tick-last past a i)
   where
-    go : Index (length past) i → (i < length past → nth past i .tick ≤ lastTick past) → nth (r ∷ past) i .tick ≤ r .tick
-    go (last e) ih = rw (e, nth-last r past) (omega arith)
-    go (earlier l) ih = rw (nth-earlier r past i l) (omega (arith, no-fault past r ok .tick, ih l))
+    go : (i ≡ length past) ⊎ (i < length past) → (i < length past → nth past i .tick ≤ lastTick past) → nth (r ∷ past) i .tick ≤ r .tick
+    go (inl e) ih = rw (e, nth-last r past) (omega arith)
+    go (inr l) ih = rw (nth-earlier r past i l) (omega (arith, no-fault past r ok .tick, ih l))
 
 -- "Ticks are checked not to fall": from any record to any later one
 pub ticks-law : (past : List Record) → Admits past → (i j : ℕ) → i ≤ j → j < length past → nth past i .tick ≤ nth past j .tick
 ticks-law [] none i j l h = absurd (omega arith)
-ticks-law (r ∷ past) (more ok a) i j l h = go (index (length past) j h) (ticks-law past a i j l)
+ticks-law (r ∷ past) (more ok a) i j l h = go (eq-or-lt-of-le (omega arith)) (ticks-law past a i j l)
   where
-    go : Index (length past) j → (j < length past → nth past i .tick ≤ nth past j .tick) → nth (r ∷ past) i .tick ≤ nth (r ∷ past) j .tick
-    go (last e) ih = rw (e, nth-last r past) (tick-last (r ∷ past) (more ok a) i (omega arith))
-    go (earlier b) ih = rw (nth-earlier r past j b, nth-earlier r past i (omega arith)) (ih b)
+    go : (j ≡ length past) ⊎ (j < length past) → (j < length past → nth past i .tick ≤ nth past j .tick) → nth (r ∷ past) i .tick ≤ nth (r ∷ past) j .tick
+    go (inl e) ih = rw (e, nth-last r past) (tick-last (r ∷ past) (more ok a) i (omega arith))
+    go (inr b) ih = rw (nth-earlier r past j b, nth-earlier r past i (omega arith)) (ih b)
 
 -- what a record leaves pending for its own client, and for another
 own-call : (e : Event) (client index : ℕ) → pendingKind (callOf e client index) client ≡ leaves e
@@ -90,12 +78,12 @@ kind-other r past client n =
 kind-latest : (past : List Record) (i : ℕ) → i < length past → ((k : ℕ) → i < k → k < length past → nth past k .client ≡ nth past i .client → ⊥)
     → pendingKind (pendingCalls past) (nth past i .client) ≡ leaves (nth past i .event)
 kind-latest [] i h alone = absurd (omega arith)
-kind-latest (r ∷ past) i h alone = go (index (length past) i h) (kind-latest past i)
+kind-latest (r ∷ past) i h alone = go (eq-or-lt-of-le (omega arith)) (kind-latest past i)
   where
-    go : Index (length past) i → (i < length past → ((k : ℕ) → i < k → k < length past → nth past k .client ≡ nth past i .client → ⊥) → pendingKind (pendingCalls past) (nth past i .client) ≡ leaves (nth past i .event))
+    go : (i ≡ length past) ⊎ (i < length past) → (i < length past → ((k : ℕ) → i < k → k < length past → nth past k .client ≡ nth past i .client → ⊥) → pendingKind (pendingCalls past) (nth past i .client) ≡ leaves (nth past i .event))
         → pendingKind (pendingCalls (r ∷ past)) (nth (r ∷ past) i .client) ≡ leaves (nth (r ∷ past) i .event)
-    go (last e) ih = rw (e, nth-last r past) (kind-own r past)
-    go (earlier l) ih =
+    go (inl e) ih = rw (e, nth-last r past) (kind-own r past)
+    go (inr l) ih =
         let same : nth (r ∷ past) i ≡ nth past i = nth-earlier r past i l in
         let apart : (nth past i .client ≡ r .client → ⊥) = λ e. alone (length past) l (omega arith) (rw (nth-last r past, same) (sym e)) in
         rw same (kind-other r past (nth past i .client) apart ∙ ih l (λ k a b e. alone k a (omega arith) (rw (nth-earlier r past k b, same) e)))
@@ -111,20 +99,20 @@ kind-absent (r ∷ past) client alone =
 -- "a client's records go call, return, call, ..": the first of them is a call
 pub first-law : (past : List Record) → Admits past → (j : ℕ) → j < length past → ((k : ℕ) → k < j → nth past k .client ≡ nth past j .client → ⊥) → asks (nth past j .event) ≡ 0
 first-law [] none j h alone = absurd (omega arith)
-first-law (r ∷ past) (more ok a) j h alone = go (index (length past) j h) (first-law past a j)
+first-law (r ∷ past) (more ok a) j h alone = go (eq-or-lt-of-le (omega arith)) (first-law past a j)
   where
-    go : Index (length past) j → (j < length past → ((k : ℕ) → k < j → nth past k .client ≡ nth past j .client → ⊥) → asks (nth past j .event) ≡ 0) → asks (nth (r ∷ past) j .event) ≡ 0
-    go (last e) ih =
+    go : (j ≡ length past) ⊎ (j < length past) → (j < length past → ((k : ℕ) → k < j → nth past k .client ≡ nth past j .client → ⊥) → asks (nth past j .event) ≡ 0) → asks (nth (r ∷ past) j .event) ≡ 0
+    go (inl e) ih =
         let here : nth (r ∷ past) j ≡ r = ap (nth (r ∷ past)) e ∙ nth-last r past in
         rw here (sym (no-fault past r ok .asked) ∙ kind-absent past (r .client) (λ k l q. alone k (omega arith) (rw (nth-earlier r past k l, here) q)))
-    go (earlier l) ih =
+    go (inr l) ih =
         let same : nth (r ∷ past) j ≡ nth past j = nth-earlier r past j l in
         rw same (ih l (λ k b q. alone k b (rw (nth-earlier r past k (omega arith), same) q)))
 
 -- and each that follows asks for what the one before it leaves
 pub next-law : (past : List Record) → Admits past → (i j : ℕ) → Next (reverse past) i j → asks (nth past j .event) ≡ leaves (nth past i .event)
 next-law [] none i j n = absurd (omega (arith, n .there))
-next-law (r ∷ past) (more ok a) i j n = go (index (length past) j (omega (arith, n .there, length-reverse (r ∷ past)))) (next-law past a i j)
+next-law (r ∷ past) (more ok a) i j n = go (eq-or-lt-of-le (omega (arith, n .there, length-reverse (r ∷ past)))) (next-law past a i j)
   where
     i-earlier : i < length past
     i-earlier = omega (arith, n .later, n .there, length-reverse (r ∷ past))
@@ -132,13 +120,13 @@ next-law (r ∷ past) (more ok a) i j n = go (index (length past) j (omega (arit
     was : nth (r ∷ past) i ≡ nth past i
     was = nth-earlier r past i i-earlier
 
-    go : Index (length past) j → (Next (reverse past) i j → asks (nth past j .event) ≡ leaves (nth past i .event)) → asks (nth (r ∷ past) j .event) ≡ leaves (nth (r ∷ past) i .event)
-    go (last e) ih =
+    go : (j ≡ length past) ⊎ (j < length past) → (Next (reverse past) i j → asks (nth past j .event) ≡ leaves (nth past i .event)) → asks (nth (r ∷ past) j .event) ≡ leaves (nth (r ∷ past) i .event)
+    go (inl e) ih =
         let here : nth (r ∷ past) j ≡ r = ap (nth (r ∷ past)) e ∙ nth-last r past in
         let own : r .client ≡ nth past i .client = rw (here, was) at (n .same) in
         let latest = kind-latest past i i-earlier (λ k b l q. n .between k b (omega arith) (rw (nth-earlier r past k l, was) q)) in
         rw (here, was) (sym (no-fault past r ok .asked) ∙ (ap (pendingKind (pendingCalls past)) own ∙ latest))
-    go (earlier l) ih =
+    go (inr l) ih =
         let same : nth (r ∷ past) j ≡ nth past j = nth-earlier r past j l in
         rw (same, was) (ih (record {
           later = n .later;
@@ -148,50 +136,32 @@ next-law (r ∷ past) (more ok a) i j n = go (index (length past) j (omega (arit
         }))
 
 -- a value called to be added is among those added
-isIn-append : (v : ℕ) (xs ys : List ℕ) → isIn v xs ≡ true → isIn v (xs ++ ys) ≡ true
-unfolding isIn
-isIn-append v [] ys e = let z : _≡_ {A = Bool} false true = e in cc
-isIn-append v (x ∷ xs) ys e = go (eqb x v) e (isIn-append v xs ys)
-  where
-    go : (b : Bool) → (if b then true else isIn v xs) ≡ true → (isIn v xs ≡ true → isIn v (xs ++ ys) ≡ true) → (if b then true else isIn v (xs ++ ys)) ≡ true
-    go true e ih = refl
-    go false e ih = ih e
-
-isIn-last : (v : ℕ) (xs : List ℕ) → isIn v (xs ++ (v ∷ [])) ≡ true
-unfolding isIn
-isIn-last v [] = rw (eq-eqb v v refl) refl
-isIn-last v (x ∷ xs) = go (eqb x v) (isIn-last v xs)
-  where
-    go : (b : Bool) → isIn v (xs ++ (v ∷ [])) ≡ true → (if b then true else isIn v (xs ++ (v ∷ []))) ≡ true
-    go true ih = refl
-    go false ih = ih
-
 value-added : (past : List Record) (i v : ℕ) → i < length past → nth past i .event ≡ CallAdd v → isIn v (addedValues past) ≡ true
 unfolding addedValues
 value-added [] i v h e = absurd (omega arith)
-value-added (r ∷ past) i v h e = go (index (length past) i h) (value-added past i v)
+value-added (r ∷ past) i v h e = go (eq-or-lt-of-le (omega arith)) (value-added past i v)
   where
-    go : Index (length past) i → (i < length past → nth past i .event ≡ CallAdd v → isIn v (addedValues past) ≡ true) → isIn v (addedValues past ++ valueOf (r .event)) ≡ true
-    go (last q) ih =
+    go : (i ≡ length past) ⊎ (i < length past) → (i < length past → nth past i .event ≡ CallAdd v → isIn v (addedValues past) ≡ true) → isIn v (addedValues past ++ valueOf (r .event)) ≡ true
+    go (inl q) ih =
         let own : r .event ≡ CallAdd v = rw (q, nth-last r past) at e in
         rw own (isIn-last v (addedValues past))
-    go (earlier l) ih = isIn-append v (addedValues past) (valueOf (r .event)) (ih l (rw (nth-earlier r past i l) at e))
+    go (inr l) ih = rw (isIn-append v (addedValues past) (valueOf (r .event)), ih l (rw (nth-earlier r past i l) at e)) refl
 
 -- no value is called to be added twice
 pub once-law : (past : List Record) → Admits past → (i j v : ℕ) → i < j → j < length past → nth past i .event ≡ CallAdd v → nth past j .event ≡ CallAdd v → ⊥
 once-law [] none i j v l h ei ej = omega arith
-once-law (r ∷ past) (more ok a) i j v l h ei ej = go (index (length past) j h) (once-law past a i j v l)
+once-law (r ∷ past) (more ok a) i j v l h ei ej = go (eq-or-lt-of-le (omega arith)) (once-law past a i j v l)
   where
     was : nth past i .event ≡ CallAdd v
     was = rw (nth-earlier r past i (omega arith)) at ei
 
-    go : Index (length past) j → (j < length past → nth past i .event ≡ CallAdd v → nth past j .event ≡ CallAdd v → ⊥) → ⊥
-    go (last e) ih =
+    go : (j ≡ length past) ⊎ (j < length past) → (j < length past → nth past i .event ≡ CallAdd v → nth past j .event ≡ CallAdd v → ⊥) → ⊥
+    go (inl e) ih =
         let own : r .event ≡ CallAdd v = rw (e, nth-last r past) at ej in
         let z : _≡_ {A = Bool} true false = sym (value-added past i v (omega arith) was) ∙ no-fault past r ok .fresh v own in
         let w : _≡_ {A = ℕ} 0 1 = cc in
         omega arith
-    go (earlier b) ih = ih b was (rw (nth-earlier r past j b) at ej)
+    go (inr b) ih = ih b was (rw (nth-earlier r past j b) at ej)
 
 -- a record has a next one of its client, or no later one
 pub follows-law : (records : List Record) (i : ℕ) → ((j : ℕ) × Next records i j) ⊎ ((k : ℕ) → i < k → k < length records → recordOf records k .client ≡ recordOf records i .client → ⊥)

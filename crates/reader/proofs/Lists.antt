@@ -2,7 +2,7 @@
 use Prim.Native.Nat.{ℕ, zero, suc, _+_, _-_, _/_, _%_, _≤_, _<_}
 use native.Mathlib.Omega.{arith}
 use native.Mathlib.Numerals.{add-one}
-use mathlib.Core.Path.{_≡_, refl, ap, _∙_}
+use mathlib.Core.Path.{_≡_, refl, sym, ap, _∙_}
 use mathlib.Core.Bool.{Bool, true, false}
 use mathlib.Core.List.{List, [], _∷_, _++_, map, map-append, append-assoc, append-nil}
 use lib.ListN.{length, getD, set, take, drop, drop-of-length-le, length-append, length-take, length-drop}
@@ -13,30 +13,33 @@ use Rattle.reader.specs.Choice.{if_then_else_}
 use Rattle.reader.specs.Log.{isIn}
 use Rattle.reader.specs.Tables.{position, without, kindOfFound, earliestCode}
 
-pub isIn-snoc : (v : ℕ) (xs : List ℕ) (y : ℕ) → isIn v (xs ++ (y ∷ [])) ≡ (if isIn v xs then true else eqb y v)
+-- a number is in two lists, one behind the other, if it is in one of them
+pub isIn-append : (v : ℕ) (xs ys : List ℕ) → isIn v (xs ++ ys) ≡ (if isIn v xs then true else isIn v ys)
 unfolding isIn
-isIn-snoc v [] y = go (eqb y v)
+isIn-append v [] ys = refl
+isIn-append v (x ∷ xs) ys = go (eqb x v) (isIn-append v xs ys)
   where
-    go : (b : Bool) → (if b then true else false) ≡ b
-    go true = refl
-    go false = refl
-isIn-snoc v (x ∷ xs) y = go (eqb x v) (isIn-snoc v xs y)
-  where
-    go : (b : Bool) → isIn v (xs ++ (y ∷ [])) ≡ (if isIn v xs then true else eqb y v)
-        → (if b then true else isIn v (xs ++ (y ∷ []))) ≡ (if (if b then true else isIn v xs) then true else eqb y v)
+    go : (b : Bool) → isIn v (xs ++ ys) ≡ (if isIn v xs then true else isIn v ys)
+        → (if b then true else isIn v (xs ++ ys)) ≡ (if (if b then true else isIn v xs) then true else isIn v ys)
     go true e = refl
     go false e = e
 
--- one entry more: it is the one that is looked for, or not
-pub isIn-hit : (v : ℕ) (xs : List ℕ) (i : ℕ) → i < length xs → getD xs i 0 ≡ v → true ≡ isIn v (take (i + 1) xs)
-isIn-hit v xs i h e = rw (add-one, take-suc xs i 0 h, isIn-snoc v (take i xs) (getD xs i 0), eq-eqb _ _ e) (go (isIn v (take i xs)))
+-- it is behind others
+pub isIn-last : (v : ℕ) (xs : List ℕ) → isIn v (xs ++ (v ∷ [])) ≡ true
+unfolding isIn
+isIn-last v xs = rw (isIn-append v xs (v ∷ []), eq-eqb v v refl) (go (isIn v xs))
   where
-    go : (b : Bool) → true ≡ (if b then true else true)
+    go : (b : Bool) → (if b then true else true) ≡ true
     go true = refl
     go false = refl
 
+-- one entry more: it is the one that is looked for, or not
+pub isIn-hit : (v : ℕ) (xs : List ℕ) (i : ℕ) → i < length xs → getD xs i 0 ≡ v → true ≡ isIn v (take (i + 1) xs)
+isIn-hit v xs i h e = rw (add-one, take-suc xs i 0 h, e) (sym (isIn-last v (take i xs)))
+
 pub isIn-miss : (v : ℕ) (xs : List ℕ) (i : ℕ) → i < length xs → (getD xs i 0 ≡ v → ⊥) → isIn v (take i xs) ≡ isIn v (take (i + 1) xs)
-isIn-miss v xs i h n = rw (add-one, take-suc xs i 0 h, isIn-snoc v (take i xs) (getD xs i 0), ne-eqb _ _ n) (go (isIn v (take i xs)))
+unfolding isIn
+isIn-miss v xs i h n = rw (add-one, take-suc xs i 0 h, isIn-append v (take i xs) (getD xs i 0 ∷ []), ne-eqb _ _ n) (go (isIn v (take i xs)))
   where
     go : (b : Bool) → b ≡ (if b then true else false)
     go true = refl
