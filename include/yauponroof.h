@@ -1,9 +1,11 @@
 /*
- * yauponroof.h - a judge for logs of queue operations, version 0.1.0
+ * yauponroof.h - a judge for logs of queue operations, version 0.2.0
  *
  * A log tells the calls and the returns of operations on one queue, made by any number of clients.
- * This version reads a log: yr_check says whether the log is readable and how many operations it
- * has, or which record is at fault and why.
+ * This version reads a log and replays an order of its operations. yr_check says whether the log is
+ * readable and how many operations it has, or which record is at fault and why. yr_replay says
+ * whether the order on a sheet is legal for the log: whether one queue that did the operations in
+ * that order, each between its call and its return, would have answered as the log tells.
  *
  * Link with libyauponroof.a (Linux on x86-64), which needs memset of the C library and nothing else.
  * What the functions declared here answer is proved. This header is not: it is held against the
@@ -24,9 +26,28 @@
  *        5  return of remove, empty           7
  *
  * Every client number, tick and value that fits its field is allowed. Value 0 is a value and does
- * not mean "empty". Ticks may stay equal from one record to the next and may not fall. Each call
- * record begins an operation. An add may lack its return; a remove may not. Records are counted
- * from 0.
+ * not mean "empty". Ticks may stay equal from one record to the next and may not fall. Records are
+ * counted from 0. Each call record begins an operation, and operations are numbered from 0 in the
+ * order of their call records. An add may lack its return; a remove may not.
+ *
+ * The sheet
+ * ---------
+ * A sheet tells the verdict on a log. Its fields are big-endian and unsigned as well. Byte 0 is the
+ * version, 1. Byte 1 is the verdict: 0 for an order, or else the number of a pattern that rules
+ * every order out. Bytes 2 and 3 are k. Then come k operation numbers of 2 bytes each with nothing
+ * behind them, so that a sheet has 4 + 2k bytes. With verdict 0 they are the order, first to last.
+ *
+ * Legal orders
+ * ------------
+ * An operation precedes another if its return record stands before the call record of the other;
+ * ticks do not count, and an add without return precedes nothing. An order is legal for a log if
+ *
+ * - it lists every operation that has returned exactly once, each add that has not returned at most
+ *   once, and no other number;
+ * - no operation comes before one that precedes it;
+ * - done in that order on a queue that is empty at the start, each add puts its value at the back,
+ *   each remove that returned a value takes that value from the front, and each remove that
+ *   returned empty meets an empty queue.
  *
  * Rules for every function
  * ------------------------
@@ -34,7 +55,8 @@
  * - No function reads or writes outside the bytes that are lent to it. An output buffer overlaps no
  *   input.
  * - No function uses the heap or a global variable, or keeps a pointer it was given. Any number of
- *   threads may call at the same time, also on the same log, as long as none of them changes it.
+ *   threads may call at the same time, also on the same bytes, as long as none of them changes
+ *   these.
  */
 
 #ifndef YAUPONROOF_H
@@ -47,9 +69,9 @@
 extern "C" {
 #endif
 
-#define YR_VERSION "0.1.0"
+#define YR_VERSION "0.2.0"
 #define YR_VERSION_MAJOR 0
-#define YR_VERSION_MINOR 1
+#define YR_VERSION_MINOR 2
 #define YR_VERSION_PATCH 0
 
 /* The most records that a log may have. */
@@ -58,7 +80,10 @@ extern "C" {
 /* The most bytes of a readable log: 3, and 12 for each of 1,024 calls of add. */
 #define YR_LOG_MAX 12291
 
-/* The most bytes of a verdict sheet: 4, and 2 for each of 682 operations. */
+/*
+ * The most bytes of a verdict sheet: 4, and 2 for each of 682 operations. Only an order that lists
+ * adds without return whose values were never removed can be longer; yr_replay takes that as well.
+ */
 #define YR_SHEET_MAX 1368
 
 /*
@@ -76,7 +101,7 @@ typedef uint64_t yr_answer;
 
 /*
  * All refusals. Those from 1 to 11 concern what was handed in, those from 20 on how things stand.
- * A refused call writes nothing. yr_check gives 1 to 10 only.
+ * A refused call writes nothing. yr_check gives 1 to 10 only, and yr_replay 1 to 11.
  */
 enum yr_refusal {
     YR_REFUSAL_BYTES = 1,            /* fewer than 3 bytes; the bytes end before or inside a record;
@@ -134,6 +159,34 @@ enum yr_refusal {
  * Nothing is written. Less than 16 KiB of stack is used (12.4 KB measured).
  */
 yr_answer yr_check(const uint8_t *log, size_t log_len);
+
+/*
+ * Holds the order on a sheet against a log.
+ *
+ * In:   log        the log_len bytes of the log; never NULL, not even if log_len is 0
+ *       log_len    any length; above YR_LOG_MAX no log is readable
+ *       sheet      the sheet_len bytes of the sheet; never NULL, not even if sheet_len is 0
+ *       sheet_len  any length; above 131,074, where k is 65,535, every sheet is refused
+ * Out:  accepted, with 1 (yes) if the order is legal for the log and 0 (no) if it is not; otherwise
+ *       one of the refusals below.
+ *
+ * The first test that fails decides, in this order:
+ *
+ *     1 to 10  the log is not readable: the refusal and the index that yr_check gives, whatever the
+ *              sheet is
+ *     11       the sheet has fewer than 4 bytes (index 0)
+ *     11       the version of the sheet is not 1 (index 0)
+ *     11       the verdict is not 0 (index 0)
+ *     11       the length of the sheet is not 4 + 2k (index 0)
+ *
+ * Nothing is refused for what the sheet lists. An operation listed twice, one left out that has
+ * returned, or a number that the log lacks gives no. An add without return may be listed once or
+ * left out, also if its value was never removed; if a remove returned its value, no order without
+ * it is legal.
+ *
+ * Nothing is written. Less than 64 KiB of stack is used (37.2 KB measured).
+ */
+yr_answer yr_replay(const uint8_t *log, size_t log_len, const uint8_t *sheet, size_t sheet_len);
 
 #ifdef __cplusplus
 }

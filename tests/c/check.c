@@ -10,15 +10,6 @@
 #include "logs.h"
 #include "yauponroof.h"
 
-static void expect_answer(yr_answer answer, uint32_t refusal, uint32_t value, const char *what)
-{
-    int holds = YR_REFUSED(answer) == refusal && YR_VALUE(answer) == value;
-    count(holds, what);
-    if (!holds)
-        printf("    answered %lu %lu, not %lu %lu\n", (unsigned long)YR_REFUSED(answer),
-               (unsigned long)YR_VALUE(answer), (unsigned long)refusal, (unsigned long)value);
-}
-
 static void expect_bytes(const uint8_t *bytes, size_t length, uint32_t refusal, uint32_t value,
                          const char *what)
 {
@@ -36,7 +27,17 @@ static void check_macros(void)
     expect_answer(answer, 10, 0xFFFFFFFEu, "the parts of an answer are told apart");
     count(YR_REFUSED((yr_answer)1023) == 0, "an answer without refusal is accepted");
     count(YR_LOG_MAX == 3 + 12 * YR_MAX_RECORDS, "YR_LOG_MAX is the longest log");
+    count(YR_SHEET_MAX == 4 + 2 * (2 * (YR_MAX_RECORDS / 3)),
+          "YR_SHEET_MAX is the longest sheet: an add and its remove have three records");
     count(sizeof(yr_answer) == 8, "an answer has 64 bits");
+}
+
+static void check_version(void)
+{
+    char numbers[32];
+    snprintf(numbers, sizeof numbers, "%d.%d.%d", YR_VERSION_MAJOR, YR_VERSION_MINOR,
+             YR_VERSION_PATCH);
+    count(strcmp(numbers, YR_VERSION) == 0, "YR_VERSION is made of its three numbers");
 }
 
 static void check_headers(void)
@@ -111,7 +112,8 @@ static void check_records(void)
 
 static void check_largest(void)
 {
-    struct log log, copy;
+    static struct log log, copy;
+    static struct sheet order;
 
     log_pending_adds(&log, YR_MAX_RECORDS);
     copy = log;
@@ -120,17 +122,18 @@ static void check_largest(void)
     count(memcmp(log.bytes, copy.bytes, log.length) == 0, "the log is unchanged");
     log_pending_adds(&log, YR_MAX_RECORDS + 1);
     expect_log(&log, YR_REFUSAL_RECORDS, 0, "1,025 adds");
-    log_calls_then_returns(&log);
+    log_calls_then_returns(&log, &order);
     expect_log(&log, 0, 512, "512 calls, then their returns");
-    log_simulate(&log, CLIENTS_REUSED);
+    log_simulate(&log, &order, CLIENTS_REUSED);
     expect_log(&log, 0, 512, "a run of 8 clients");
-    log_simulate(&log, CLIENT_PER_OPERATION);
+    log_simulate(&log, &order, CLIENT_PER_OPERATION);
     expect_log(&log, 0, 512, "a run with a client for each operation");
 }
 
 int main(void)
 {
     check_macros();
+    check_version();
     check_headers();
     check_single_records();
     check_records();

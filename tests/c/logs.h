@@ -1,6 +1,6 @@
 /*
  * Logs for the C tests and the measurements. A log is written record by record into a struct log;
- * the ticks rise by one.
+ * the ticks rise by one. Beside the logs of a correct queue stands an order that is legal for them.
  */
 
 #ifndef LOGS_H
@@ -10,6 +10,7 @@
 #include <stdint.h>
 #include <string.h>
 
+#include "sheets.h"
 #include "yauponroof.h"
 
 enum kind { CALL_ADD = 1, CALL_REMOVE, RETURN_ADD, RETURN_VALUE, RETURN_EMPTY };
@@ -71,14 +72,18 @@ static inline void log_pending_adds(struct log *log, unsigned n)
         log_record(log, CALL_ADD, i, i);
 }
 
-/* 512 calls, alternately add and remove, then their 512 returns, a client each. */
-static inline void log_calls_then_returns(struct log *log)
+/* 512 calls, alternately add and remove, then their 512 returns, a client each. In the order all
+   adds come before the removes of their values. */
+static inline void log_calls_then_returns(struct log *log, struct sheet *order)
 {
     log_begin(log);
     for (unsigned i = 0; i < 512; i++)
         log_record(log, i % 2 == 0 ? CALL_ADD : CALL_REMOVE, i, i);
     for (unsigned i = 0; i < 512; i++)
         log_record(log, i % 2 == 0 ? RETURN_ADD : RETURN_VALUE, i, i - 1);
+    sheet_begin(order);
+    for (unsigned i = 0; i < 512; i++)
+        sheet_list(order, i < 256 ? 2 * i : 2 * (i - 256) + 1);
 }
 
 /* Who makes the calls of a simulated run. */
@@ -86,20 +91,24 @@ enum clients { CLIENTS_REUSED, CLIENT_PER_OPERATION };
 
 #define WORKERS 8
 
-/* A client; while it is at work, the record that returns its operation. */
+/* A client; while it is at work, its operation and the record that returns it. */
 struct worker {
     unsigned client;
     int at_work;
+    unsigned operation;
     enum kind returns;
     uint32_t value;
 };
 
-/* The state of a simulated run; values are numbered in the order in which they are added. */
+/* The state of a simulated run; values are numbered in the order of the calls of their adds. */
 struct simulation {
+    struct log *log;
+    struct sheet *order;
     uint32_t random;
-    uint32_t added;
-    uint32_t removed;
     unsigned calls;
+    uint32_t adds;
+    uint32_t queue[YR_MAX_RECORDS];
+    unsigned front, back;
 };
 
 static inline unsigned simulation_random(struct simulation *run, unsigned bound)
@@ -108,42 +117,59 @@ static inline unsigned simulation_random(struct simulation *run, unsigned bound)
     return (run->random >> 16) % bound;
 }
 
-/* Calls add or remove, which takes effect at once and returns later. */
-static inline void simulation_call(struct simulation *run, struct worker *worker, struct log *log)
+/* Lets the worker's operation take effect on the queue, and notes it in the order. */
+static inline void simulation_effect(struct simulation *run, struct worker *worker)
 {
-    run->calls++;
-    worker->at_work = 1;
-    if (simulation_random(run, 2) == 0) {
-        worker->returns = RETURN_ADD;
-        log_record(log, CALL_ADD, worker->client, run->added++);
-        return;
-    }
-    worker->returns = RETURN_EMPTY;
-    if (run->removed < run->added) {
+    if (worker->returns == RETURN_ADD) {
+        run->queue[run->back++] = worker->value;
+    } else if (run->front < run->back) {
         worker->returns = RETURN_VALUE;
-        worker->value = run->removed++;
+        worker->value = run->queue[run->front++];
     }
-    log_record(log, CALL_REMOVE, worker->client, 0);
+    sheet_list(run->order, worker->operation);
 }
 
-/* 1,024 records of a correct queue with 8 clients at work; every operation returns. */
-static inline void log_simulate(struct log *log, enum clients clients)
+/* Calls add or remove. An operation of even number takes effect at once. */
+static inline void simulation_call(struct simulation *run, struct worker *worker)
 {
-    struct simulation run = {1, 0, 0, 0};
+    int adds = simulation_random(run, 2) == 0;
+    worker->at_work = 1;
+    worker->operation = run->calls++;
+    worker->returns = adds ? RETURN_ADD : RETURN_EMPTY;
+    worker->value = adds ? run->adds++ : 0;
+    log_record(run->log, adds ? CALL_ADD : CALL_REMOVE, worker->client, worker->value);
+    if (worker->operation % 2 == 0)
+        simulation_effect(run, worker);
+}
+
+/* Returns the operation, which takes effect only now if its number is odd. */
+static inline void simulation_return(struct simulation *run, struct worker *worker)
+{
+    if (worker->operation % 2 == 1)
+        simulation_effect(run, worker);
+    log_record(run->log, worker->returns, worker->client, worker->value);
+    worker->at_work = 0;
+}
+
+/* 1,024 records of a correct queue with 8 clients at work; every operation returns. The order is
+   that in which the operations take effect. */
+static inline void log_simulate(struct log *log, struct sheet *order, enum clients clients)
+{
+    struct simulation run = {log, order, 1, 0, 0, {0}, 0, 0};
     struct worker workers[WORKERS];
     memset(workers, 0, sizeof workers);
     for (unsigned i = 0; i < WORKERS; i++)
         workers[i].client = i;
     log_begin(log);
+    sheet_begin(order);
     while (log->records < YR_MAX_RECORDS) {
         struct worker *worker = &workers[simulation_random(&run, WORKERS)];
         if (worker->at_work) {
-            log_record(log, worker->returns, worker->client, worker->value);
-            worker->at_work = 0;
+            simulation_return(&run, worker);
         } else if (run.calls < YR_MAX_RECORDS / 2) {
             if (clients == CLIENT_PER_OPERATION)
                 worker->client = run.calls;
-            simulation_call(&run, worker, log);
+            simulation_call(&run, worker);
         }
     }
 }

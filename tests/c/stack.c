@@ -1,5 +1,5 @@
 /*
- * The stack that yr_check uses. A thread runs on a stack painted with a pattern; the deepest byte
+ * The stack that the entries use. A thread runs on a stack painted with a pattern; the deepest byte
  * that has lost the pattern tells how far below the calling frame the call went. Prints a line for
  * each measurement and last 'N passed, M failed'; the exit status is 0 only if none failed.
  *
@@ -17,38 +17,50 @@
 
 #include "count.h"
 #include "logs.h"
+#include "sheets.h"
 #include "yauponroof.h"
 
 #define STACK_SIZE (256 * 1024)
-#define STACK_LIMIT (16 * 1024)
 #define KNOWN_USE (8 * 1024)
 #define PAINT 0xA5
 #define ALIGNMENT 4096
 
-typedef yr_answer (*entry)(const uint8_t *, size_t);
+typedef yr_answer (*function)(const struct log *, const struct sheet *);
 
 /* What the thread calls, and the address of the frame that it calls from. */
 struct call {
-    entry entry;
+    function function;
     const struct log *log;
+    const struct sheet *sheet;
     const uint8_t *frame;
     yr_answer answer;
 };
 
-static yr_answer use_nothing(const uint8_t *log, size_t log_len)
+static yr_answer use_nothing(const struct log *log, const struct sheet *sheet)
 {
     (void)log;
-    (void)log_len;
+    (void)sheet;
     return 0;
 }
 
-static yr_answer use_known_amount(const uint8_t *log, size_t log_len)
+static yr_answer use_known_amount(const struct log *log, const struct sheet *sheet)
 {
     volatile uint8_t bytes[KNOWN_USE];
     for (size_t i = 0; i < sizeof bytes; i++)
         bytes[i] = (uint8_t)i;
-    (void)log;
-    return bytes[log_len % sizeof bytes];
+    (void)sheet;
+    return bytes[log->length % sizeof bytes];
+}
+
+static yr_answer use_check(const struct log *log, const struct sheet *sheet)
+{
+    (void)sheet;
+    return yr_check(log->bytes, log->length);
+}
+
+static yr_answer use_replay(const struct log *log, const struct sheet *sheet)
+{
+    return yr_replay(log->bytes, log->length, sheet->bytes, sheet->length);
 }
 
 static void *run(void *argument)
@@ -56,7 +68,7 @@ static void *run(void *argument)
     struct call *call = argument;
     volatile uint8_t here = 0;
     call->frame = (const uint8_t *)&here;
-    call->answer = call->entry(call->log->bytes, call->log->length);
+    call->answer = call->function(call->log, call->sheet);
     return NULL;
 }
 
@@ -91,20 +103,10 @@ static size_t measure(struct call *call)
     return used;
 }
 
-/* Measures yr_check on a log, which must be answered as told. */
-static void measure_check(const struct log *log, uint32_t refusal, uint32_t value, const char *name)
+static void measure_method(const struct log *log, const struct sheet *sheet)
 {
-    struct call call = {yr_check, log, NULL, 0};
-    size_t used = measure(&call);
-    printf("yr_check, %s: %lu bytes\n", name, (unsigned long)used);
-    count(YR_REFUSED(call.answer) == refusal && YR_VALUE(call.answer) == value, name);
-    count(used < STACK_LIMIT, "yr_check stays under 16 KiB of stack");
-}
-
-static void measure_method(const struct log *log)
-{
-    struct call nothing = {use_nothing, log, NULL, 0};
-    struct call known = {use_known_amount, log, NULL, 0};
+    struct call nothing = {use_nothing, log, sheet, NULL, 0};
+    struct call known = {use_known_amount, log, sheet, NULL, 0};
     size_t least = measure(&nothing);
     size_t used = measure(&known);
     printf("an empty function: %lu bytes\n", (unsigned long)least);
@@ -113,26 +115,94 @@ static void measure_method(const struct log *log)
     count(used >= KNOWN_USE && used < KNOWN_USE + 512, "the known amount is found");
 }
 
+/* An entry of the library and the stack that it may use, which is said in words too. */
+struct entry {
+    const char *name;
+    function function;
+    size_t limit;
+    const char *promise;
+};
+
+static const struct entry check = {
+    "yr_check", use_check, 16 * 1024, "yr_check stays under 16 KiB of stack"};
+static const struct entry replay = {
+    "yr_replay", use_replay, 64 * 1024, "yr_replay stays under 64 KiB of stack"};
+
+/* Measures an entry on a log and a sheet, which must be answered as told. */
+static void measure_entry(const struct entry *entry, const struct log *log,
+                          const struct sheet *sheet, uint32_t refusal, uint32_t value,
+                          const char *name)
+{
+    struct call call = {entry->function, log, sheet, NULL, 0};
+    size_t used = measure(&call);
+    printf("%s, %s: %lu bytes\n", entry->name, name, (unsigned long)used);
+    expect_answer(call.answer, refusal, value, name);
+    count(used < entry->limit, entry->promise);
+}
+
+/* Measures both on a log of a correct queue, with an order that is legal. */
+static void measure_both(const struct log *log, const struct sheet *order, uint32_t operations,
+                         const char *name)
+{
+    measure_entry(&check, log, order, 0, operations, name);
+    measure_entry(&replay, log, order, 0, 1, name);
+}
+
+/* Measures both on a log that is refused, with an order and with a sheet that is none. */
+static void measure_refused(const struct log *log, struct sheet *sheet, uint32_t refusal,
+                            uint32_t index, const char *name)
+{
+    measure_entry(&check, log, sheet, refusal, index, name);
+    sheet_call_order(sheet, YR_MAX_RECORDS);
+    measure_entry(&replay, log, sheet, refusal, index, name);
+    sheet->length--;
+    measure_entry(&replay, log, sheet, refusal, index, name);
+}
+
+static void measure_refused_logs(struct log *log, struct sheet *sheet)
+{
+    log_pending_adds(log, 1023);
+    log_record(log, CALL_ADD, 1023, 0);
+    measure_refused(log, sheet, YR_REFUSAL_VALUE, 1023, "the last of 1,024 adds repeats a value");
+    log_pending_adds(log, 1023);
+    log_record(log, CALL_REMOVE, 1023, 0);
+    measure_refused(log, sheet, YR_REFUSAL_PENDING_REMOVE, 1023, "a remove that never returns");
+}
+
+/* Sheets for 512 operations of a correct queue that are not legal, or not even an order. */
+static void measure_other_sheets(struct log *log, struct sheet *sheet)
+{
+    log_simulate(log, sheet, CLIENTS_REUSED);
+    sheet_list(sheet, 512);
+    measure_entry(&replay, log, sheet, 0, 0, "one operation too many");
+    sheet_call_order(sheet, 511);
+    measure_entry(&replay, log, sheet, 0, 0, "511 operations in the order of their calls");
+    sheet_call_order(sheet, SHEET_OPERATIONS);
+    measure_entry(&replay, log, sheet, 0, 0, "65,535 operations listed");
+    sheet->length--;
+    measure_entry(&replay, log, sheet, YR_REFUSAL_SHEET, 0, "a sheet of a byte less");
+}
+
 int main(void)
 {
     static struct log log;
+    static struct sheet order;
 
     log_begin(&log);
-    measure_method(&log);
-    measure_check(&log, 0, 0, "no records");
+    sheet_begin(&order);
+    measure_method(&log, &order);
+    measure_both(&log, &order, 0, "no records");
     log_pending_adds(&log, 1024);
-    measure_check(&log, 0, 1024, "1,024 adds that never return");
-    log_calls_then_returns(&log);
-    measure_check(&log, 0, 512, "512 calls, then their returns");
-    log_simulate(&log, CLIENTS_REUSED);
-    measure_check(&log, 0, 512, "8 clients at work");
-    log_simulate(&log, CLIENT_PER_OPERATION);
-    measure_check(&log, 0, 512, "a client for each operation");
-    log_pending_adds(&log, 1023);
-    log_record(&log, CALL_ADD, 1023, 0);
-    measure_check(&log, YR_REFUSAL_VALUE, 1023, "the last of 1,024 adds repeats a value");
-    log_pending_adds(&log, 1023);
-    log_record(&log, CALL_REMOVE, 1023, 0);
-    measure_check(&log, YR_REFUSAL_PENDING_REMOVE, 1023, "a remove that never returns");
+    measure_both(&log, &order, 1024, "1,024 adds that never return");
+    sheet_call_order(&order, 1024);
+    measure_entry(&replay, &log, &order, 0, 1, "1,024 adds that never return, all listed");
+    log_calls_then_returns(&log, &order);
+    measure_both(&log, &order, 512, "512 calls, then their returns");
+    log_simulate(&log, &order, CLIENTS_REUSED);
+    measure_both(&log, &order, 512, "8 clients at work");
+    log_simulate(&log, &order, CLIENT_PER_OPERATION);
+    measure_both(&log, &order, 512, "a client for each operation");
+    measure_other_sheets(&log, &order);
+    measure_refused_logs(&log, &order);
     return counted();
 }

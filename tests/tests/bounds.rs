@@ -5,7 +5,8 @@ use yauponroof_tests::build::{
 };
 use yauponroof_tests::compare::Tally;
 use yauponroof_tests::reader::{LOG_MAX, MAX_RECORDS};
-use yauponroof_tests::samples::{calls_then_returns, pending_adds, simulate, Clients};
+use yauponroof_tests::samples::{calls_then_returns, pending_adds};
+use yauponroof_tests::simulation::{simulate, Clients};
 use yauponroof_tests::{check, refused, Answer};
 
 const N: u32 = MAX_RECORDS as u32;

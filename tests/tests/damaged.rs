@@ -1,4 +1,5 @@
-//! Sound logs, damaged in every place, held against the tests' own reader.
+//! Sound logs, damaged in every place, held against the tests' own reader: by check, and by replay,
+//! which refuses the same logs.
 
 use yauponroof_tests::build::{
     call_add, call_remove, log, record_bytes, return_add, return_empty, return_value,
@@ -7,7 +8,8 @@ use yauponroof_tests::compare::Tally;
 use yauponroof_tests::notation::run;
 use yauponroof_tests::random::Random;
 use yauponroof_tests::reader::{Event, Record, HEADER};
-use yauponroof_tests::samples::{calls_then_returns, pending_adds, simulate, Clients, RUNS};
+use yauponroof_tests::samples::{calls_then_returns, pending_adds, RUNS};
+use yauponroof_tests::simulation::{simulate, Clients};
 
 /// Two clients, one of which makes three operations; equal ticks; the values 0 and 4,294,967,295;
 /// an add that does not return.
@@ -25,7 +27,7 @@ fn clients_used_again() -> Vec<Record> {
 
 /// Document 01's runs, one by hand and simulated ones, of at most 14 records.
 fn short_logs() -> Vec<Vec<Record>> {
-    let mut logs: Vec<Vec<Record>> = RUNS.iter().map(|(text, _)| run(text)).collect();
+    let mut logs: Vec<Vec<Record>> = RUNS.iter().map(|(text, ..)| run(text)).collect();
     logs.push(clients_used_again());
     for seed in 0..4 {
         logs.push(simulate(2, Clients::Reused, 14, seed));
@@ -138,7 +140,7 @@ fn compare_mixed_up(records: &[Record], tally: &mut Tally) {
 
 #[test]
 fn short_logs_damaged_in_every_way() {
-    let mut tally = Tally::new();
+    let mut tally = Tally::with_replay();
     for records in short_logs() {
         compare_lengths(&records, &mut tally);
         compare_changes(&records, all_values, &mut tally);
@@ -153,7 +155,7 @@ fn short_logs_damaged_in_every_way() {
 
 #[test]
 fn medium_logs_damaged_at_every_byte() {
-    let mut tally = Tally::new();
+    let mut tally = Tally::with_replay();
     for records in medium_logs() {
         compare_lengths(&records, &mut tally);
         compare_changes(&records, telling_values, &mut tally);
@@ -167,7 +169,7 @@ fn medium_logs_damaged_at_every_byte() {
 
 #[test]
 fn long_logs_cut_at_every_byte() {
-    let mut tally = Tally::new();
+    let mut tally = Tally::with_replay();
     for records in long_logs() {
         compare_lengths(&records, &mut tally);
     }
@@ -176,6 +178,7 @@ fn long_logs_cut_at_every_byte() {
 
 #[test]
 fn long_logs_changed_at_every_byte() {
+    // By check alone, for the time it takes.
     let mut tally = Tally::new();
     for records in long_logs() {
         compare_changes(&records, few_values, &mut tally);
@@ -185,7 +188,7 @@ fn long_logs_changed_at_every_byte() {
 
 #[test]
 fn long_logs_with_records_exchanged_lost_or_doubled() {
-    let mut tally = Tally::new();
+    let mut tally = Tally::with_replay();
     for records in long_logs() {
         compare_exchanges(&records, &mut tally);
         compare_lost_and_doubled(&records, &mut tally);
@@ -218,7 +221,7 @@ fn add_again(records: &mut [Record], at: usize, other: usize) {
 #[test]
 fn long_logs_with_faults_anywhere() {
     let mut random = Random::new(31);
-    let mut tally = Tally::new();
+    let mut tally = Tally::with_replay();
     for records in long_logs() {
         for faults in [1, 1, 2] {
             for _ in 0..1000 {
@@ -233,7 +236,7 @@ fn long_logs_with_faults_anywhere() {
 
 #[test]
 fn a_falling_tick_is_told_wherever_it_falls() {
-    let mut tally = Tally::new();
+    let mut tally = Tally::with_replay();
     for records in medium_logs() {
         let sound = log(&records);
         let mut at = HEADER;

@@ -2,15 +2,8 @@
 
 use yauponroof_tests::build::{hex, log, log_with_n};
 use yauponroof_tests::notation::run;
-use yauponroof_tests::samples::{pending_adds, RUNS};
+use yauponroof_tests::samples::{pending_adds, PROGRAM_EXAMPLE, RUNS};
 use yauponroof_tests::{check, refused, Answer};
-
-/// The example of "The program": client 1, ticks 1 to 4.
-const PROGRAM_EXAMPLE: &str = "01 00 04 \
-    0B 01 00 01 00 00 00 01 00 00 00 07 \
-    07 03 00 01 00 00 00 02 \
-    07 02 00 01 00 00 00 03 \
-    0B 04 00 01 00 00 00 04 00 00 00 07";
 
 fn check_hex(text: &str) -> Answer {
     check(&hex(text))
@@ -18,7 +11,7 @@ fn check_hex(text: &str) -> Answer {
 
 #[test]
 fn readable_runs_are_accepted_with_their_operations() {
-    for (text, operations) in RUNS {
+    for (text, operations, _) in RUNS {
         let answer = check(&log(&run(text)));
         assert_eq!(answer, Answer::Accepted(operations), "{text}");
     }

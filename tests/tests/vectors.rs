@@ -1,15 +1,27 @@
 //! The vectors that lie beside the repository, where they do. Every line that hands in a log tells
-//! whether the reader takes it.
+//! whether the reader takes it, and many tell what replay answers: those that call it, and those in
+//! which the judge or the program lists an order.
 
 use std::io::{stderr, Write};
 use std::path::{Path, PathBuf};
 
 use yauponroof_tests::build::hex;
-use yauponroof_tests::compare::Tally;
-use yauponroof_tests::{refused, Answer};
+use yauponroof_tests::compare::{Replays, Tally};
+use yauponroof_tests::sheet::{sheet, ORDER};
+use yauponroof_tests::{refused, Answer, NO, YES};
 
 /// The program takes this many bytes of its input as the log.
 const PROGRAM_INPUT: usize = 12_292;
+
+/// A line that hands in a log as a whole.
+struct Line<'a> {
+    text: &'a str,
+    entry: &'a str,
+    /// What is handed in behind the log.
+    fields: Vec<&'a str>,
+    log: Vec<u8>,
+    answer: Vec<&'a str>,
+}
 
 /// What a line says about reading its log.
 enum Reading {
@@ -22,8 +34,8 @@ fn vectors() -> PathBuf {
     Path::new(env!("CARGO_MANIFEST_DIR")).join("../../shared/vectors/document-01.txt")
 }
 
-#[test]
-fn the_reader_answers_as_the_vectors_say() {
+/// Calls `visit` with every line that hands in a log, if the vectors are there.
+fn visit_lines(visit: impl FnMut(Line)) -> bool {
     if !vectors().is_file() {
         // Written past the capture of the test's output, so that it is seen.
         writeln!(
@@ -32,12 +44,54 @@ fn the_reader_answers_as_the_vectors_say() {
             vectors().display()
         )
         .unwrap();
-        return;
+        return false;
     }
     let text = std::fs::read_to_string(vectors()).expect("the vectors");
-    let mut tally = Tally::new();
-    for line in text.lines() {
-        check_line(line, &mut tally);
+    text.lines().filter_map(parse).for_each(visit);
+    true
+}
+
+/// Comments and lines of sessions hand in no log as a whole.
+fn parse(text: &str) -> Option<Line<'_>> {
+    if text.is_empty() || text.starts_with('#') {
+        return None;
+    }
+    let (request, answer) = text.split_once(" => ").expect("a request and an answer");
+    let (entry, request) = request.split_once(' ').expect("an entry and a request");
+    let mut fields = request.split_whitespace();
+    let mut log = match entry {
+        "judge" | "excerpt" | "narrow" | "replay" | "program" => bytes(fields.next()),
+        "session" => return None,
+        _ => panic!("an entry of no known name: {text}"),
+    };
+    if entry == "program" {
+        log.truncate(PROGRAM_INPUT);
+    }
+    Some(Line {
+        text,
+        entry,
+        fields: fields.collect(),
+        log,
+        answer: answer.split_whitespace().collect(),
+    })
+}
+
+fn bytes(field: Option<&str>) -> Vec<u8> {
+    match field.expect("the bytes of a log or a sheet") {
+        "." => Vec::new(),
+        digits => hex(digits),
+    }
+}
+
+fn decimal(word: &str) -> u32 {
+    word.parse().expect("a decimal number")
+}
+
+#[test]
+fn the_reader_answers_as_the_vectors_say() {
+    let mut tally = Tally::with_replay();
+    if !visit_lines(|line| check_reading(&line, &mut tally)) {
+        return;
     }
     assert!(
         tally.total() >= 900,
@@ -47,47 +101,24 @@ fn the_reader_answers_as_the_vectors_say() {
     tally.assert_at_least([150, 80, 300, 8, 20, 20, 20, 8, 25, 2, 70]);
 }
 
-/// Checks one line; comments and lines of sessions hand in no log as a whole.
-fn check_line(line: &str, tally: &mut Tally) {
-    if line.is_empty() || line.starts_with('#') {
-        return;
-    }
-    let (request, answer) = line.split_once(" => ").expect("a request and an answer");
-    let mut fields = request.split_whitespace();
-    let entry = fields.next().expect("an entry");
-    let mut log = match entry {
-        "judge" | "excerpt" | "narrow" | "replay" | "program" => bytes(fields.next()),
-        "session" => return,
-        _ => panic!("an entry of no known name: {line}"),
-    };
-    if entry == "program" {
-        log.truncate(PROGRAM_INPUT);
-    }
-    let read = tally.compare(&log);
-    let agrees = match reading(answer) {
+fn check_reading(line: &Line, tally: &mut Tally) {
+    let read = tally.compare(&line.log);
+    let agrees = match reading(&line.answer) {
         Reading::Accepted => matches!(read, Answer::Accepted(_)),
         Reading::AcceptedWith { operations } => read == Answer::Accepted(operations),
         Reading::Refused(refusal) => read == refusal,
     };
-    assert!(agrees, "the library answers {read:?} to the line {line}");
+    assert!(agrees, "{read:?} to the line {}", line.text);
 }
 
-fn bytes(field: Option<&str>) -> Vec<u8> {
-    match field.expect("the bytes of a log") {
-        "." => Vec::new(),
-        digits => hex(digits),
-    }
-}
-
-fn reading(answer: &str) -> Reading {
-    let words: Vec<&str> = answer.split_whitespace().collect();
-    match words[..] {
+fn reading(answer: &[&str]) -> Reading {
+    match answer {
         ["refused", number, index] => reading_of_refusal(decimal(number), decimal(index)),
         ["log", _, "records", calls, "operations", ..] => Reading::AcceptedWith {
             operations: decimal(calls),
         },
         ["wrote", ..] | ["yes"] | ["no"] => Reading::Accepted,
-        _ => panic!("an answer of no known form: {answer}"),
+        _ => panic!("an answer of no known form: {answer:?}"),
     }
 }
 
@@ -100,6 +131,54 @@ fn reading_of_refusal(number: u32, index: u32) -> Reading {
     }
 }
 
-fn decimal(word: &str) -> u32 {
-    word.parse().expect("a decimal number")
+#[test]
+fn replay_answers_as_the_vectors_say() {
+    let mut called = Replays::new();
+    let mut listed = Replays::new();
+    let is_there = visit_lines(|line| {
+        if line.entry == "replay" {
+            let sheet = bytes(line.fields.first().copied());
+            let answer = called.compare(&line.log, &sheet);
+            assert_eq!(answer, replay_answer(&line.answer), "{}", line.text);
+        } else if let Some((sheet, told)) = written_sheet(&line) {
+            assert_eq!(listed.compare(&line.log, &sheet), told, "{}", line.text);
+        }
+    });
+    if is_there {
+        called.assert_answered(8, 11);
+        called.assert_refused(2, 20);
+        called.assert_refused(10, 39);
+        called.assert_refused(11, 5);
+        listed.assert_answered(61 + 9, 0);
+        listed.assert_refused(11, 58);
+    }
+}
+
+/// What a line that calls replay says it answers.
+fn replay_answer(answer: &[&str]) -> Answer {
+    match answer {
+        ["yes"] => YES,
+        ["no"] => NO,
+        ["refused", number, index] => refused(decimal(number), decimal(index)),
+        _ => panic!("no answer of replay: {answer:?}"),
+    }
+}
+
+/// The sheet that the judge wrote, or that says what the program printed, and what replay must say
+/// to it: yes to an order, while a pattern is nothing that can be replayed.
+fn written_sheet(line: &Line) -> Option<(Vec<u8>, Answer)> {
+    match (line.entry, &line.answer[..]) {
+        ("judge", ["wrote", written, ..]) => {
+            let sheet = hex(written);
+            let is_order = sheet[1] == ORDER;
+            Some((sheet, if is_order { YES } else { refused(11, 0) }))
+        }
+        ("program", ["log", _, "records", _, "operations", "/", "order", numbers @ ..]) => {
+            // A question mark behind them says that another order is as good.
+            let numbers = numbers.iter().filter(|&&word| word != "?");
+            let order: Vec<u16> = numbers.map(|word| decimal(word) as u16).collect();
+            Some((sheet(&order), YES))
+        }
+        _ => None,
+    }
 }

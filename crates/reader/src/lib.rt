@@ -2,7 +2,7 @@
 pub mod cursor;
 pub mod format;
 pub mod log;
-mod number;
+pub mod number;
 mod pending;
 pub mod record;
 pub mod refusal;

@@ -5,7 +5,6 @@ ghost use Prim.Native.Nat.{_+_, _*_, _<_};
 ghost use lib.ListN.{take};
 ghost use Rattle.reader.specs.Log.{maxRecords};
 ghost use Rattle.reader.specs.Tables.{Fits, Begun, Ended, kindOfFound, earliestCode};
-use crate::number::size;
 use crate::table::Table;
 use crate::table::find;
 use crate::table::push;
@@ -15,6 +14,13 @@ use crate::table::remove;
 pub const ADD_CALL: u32 = 1;
 
 pub const REMOVE_CALL: u32 = 2;
+
+// A number as a size, where its bound as a u32 is not at hand.
+fn size(x: u32) -> usize
+    ensures { λ r. ⌜ r ≡ x ⌝ }
+{
+    x as usize
+}
 
 // The kind of a client's pending call, 0 where it has none.
 pub fn pending_kind(clients: &Table, codes: &Table, count: usize, client: u32) -> u32

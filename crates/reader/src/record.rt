@@ -5,7 +5,6 @@ ghost use lib.ListN.{length};
 ghost use Rattle.reader.specs.Number.{bigEndian};
 ghost use Rattle.reader.specs.Record.{lengthOf, eventOf, decodeAt};
 use crate::number::be16;
-use crate::number::be32;
 use crate::refusal::UNKNOWN_KIND;
 use crate::refusal::WRONG_BYTES;
 use crate::refusal::WRONG_LENGTH;
@@ -34,6 +33,14 @@ pub struct Record {
 pub enum Decoded {
     Found { record: Record, next: usize },
     Malformed(u32),
+}
+
+// The number that the four bytes from `at` on stand for.
+fn be32(s: &[u8], at: usize) -> u32
+    requires { ⌜ at + 4 ≤ length (now s) ⌝ }
+    ensures { λ r. ⌜ r ≡ bigEndian (now (s .entry)) at 4 ⌝ }
+{
+    (be16(s, at) as u32) * 65536 + (be16(s, at + 2) as u32)
 }
 
 // The length that belongs to a kind; 0 for an unknown kind.

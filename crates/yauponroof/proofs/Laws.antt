@@ -1,30 +1,62 @@
 -- What a C caller takes out of an answer is what was put in: the high 32 bits are 0 if the call was accepted, else the
 -- refusal's number; the low 32 bits are what the call returns, or the refusal's record index.
-use Prim.Native.Nat.{ℕ, _/_, _%_, _≤_}
+use Prim.Native.Nat.{ℕ, _/_, _%_, _≤_, _<_}
 use native.Mathlib.Omega.{arith}
 use mathlib.Core.Path.{_≡_}
 use mathlib.Core.List.{List}
 use Rattle.reader.specs.Log.{readable, refused, readLog, checked, operations}
 use Rattle.reader.specs.Readable.{Within}
 use Rattle.reader.specs.declared.record.Record.{Record}
-use Rattle.reader.specs.declared.log.Checked.the-variants.{Refused}
+use Rattle.reader.specs.declared.log.Checked.the-variants as check
 use Rattle.reader.proofs.Laws.{within, checked-refused, few-operations}
-use Rattle.yauponroof.specs.Answer.{refusalUnit, answerOf}
+use Rattle.replay.specs.Replay.{replayed}
+use Rattle.replay.specs.declared.replay.Replayed.the-variants as replay
+use Rattle.replay.proofs.Laws.{replay-within}
+use Rattle.yauponroof.specs.Answer.{refusalUnit, refusal, checkAnswer, replayAnswer}
 
-pub accepted : (log : List ℕ) (records : List Record) → readLog log ≡ readable records
-    → (answerOf (checked (readLog log)) / refusalUnit ≡ 0) × (answerOf (checked (readLog log)) % refusalUnit ≡ operations records)
-accepted log records e =
+-- an answer that is accepted, with what it returns, and one that is refused
+pub record Accepted (answer value : ℕ) : Type 0 where
+  pub high : answer / refusalUnit ≡ 0
+  pub low : answer % refusalUnit ≡ value
+
+pub record TurnedDown (answer number index : ℕ) : Type 0 where
+  pub some : 1 ≤ number
+  pub high : answer / refusalUnit ≡ number
+  pub low : answer % refusalUnit ≡ index
+
+small-accepted : (value : ℕ) → value < refusalUnit → Accepted value value
+small-accepted value h = record { high = omega arith; low = omega arith }
+
+refusal-turned-down : (number index : ℕ) → 1 ≤ number → index < refusalUnit → TurnedDown (refusal number index) number index
+refusal-turned-down number index n i = record { some = n; high = omega arith; low = omega arith }
+
+-- of a check
+pub check-accepted : (log : List ℕ) (records : List Record) → readLog log ≡ readable records → Accepted (checkAnswer (checked (readLog log))) (operations records)
+check-accepted log records e =
     let short : Within (readable records) = rw e at (within log) in
-    rw e (omega (arith, few-operations records))
+    rw e (small-accepted (operations records) (omega (arith, few-operations records)))
 
-pub turned-down : (log : List ℕ) (number index : ℕ) → readLog log ≡ refused number index
-    → (1 ≤ number) × (answerOf (checked (readLog log)) / refusalUnit ≡ number) × (answerOf (checked (readLog log)) % refusalUnit ≡ index)
-turned-down log number index e =
+pub check-turned-down : (log : List ℕ) (number index : ℕ) → readLog log ≡ refused number index → TurnedDown (checkAnswer (checked (readLog log))) number index
+check-turned-down log number index e =
     let small : Within (refused number index) = rw e at (within log) in
-    rw e (omega arith)
+    rw e (refusal-turned-down number index (small .0) (omega (arith, small .2)))
 
--- a refusal's index is small enough for the low half
-pub refusal-fits : (log : List ℕ) {number index : ℕ} → checked (readLog log) ≡ Refused number index → (number ≤ 10) × (index ≤ 1024)
-refusal-fits log {number} {index} e =
+pub check-fits : (log : List ℕ) {number index : ℕ} → checked (readLog log) ≡ check.Refused number index → index < refusalUnit
+check-fits log {number} {index} e =
     let small : Within (refused number index) = rw (checked-refused (readLog log) e) at (within log) in
     omega arith
+
+-- of a replay
+pub replay-yes : (log sheet : List ℕ) → replayed (readLog log) sheet ≡ replay.Yes → Accepted (replayAnswer (replayed (readLog log) sheet)) 1
+replay-yes log sheet e = rw e (small-accepted 1 (omega arith))
+
+pub replay-no : (log sheet : List ℕ) → replayed (readLog log) sheet ≡ replay.No → Accepted (replayAnswer (replayed (readLog log) sheet)) 0
+replay-no log sheet e = rw e (small-accepted 0 (omega arith))
+
+pub replay-turned-down : (log sheet : List ℕ) (number index : ℕ) → replayed (readLog log) sheet ≡ replay.Refused number index → TurnedDown (replayAnswer (replayed (readLog log) sheet)) number index
+replay-turned-down log sheet number index e =
+    let (some, few, small) = replay-within log sheet e in
+    rw e (refusal-turned-down number index some (omega arith))
+
+pub replay-fits : (log sheet : List ℕ) {number index : ℕ} → replayed (readLog log) sheet ≡ replay.Refused number index → index < refusalUnit
+replay-fits log sheet e = let (some, few, small) = replay-within log sheet e in omega arith

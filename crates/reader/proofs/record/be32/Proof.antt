@@ -2,8 +2,8 @@
 use Rattle.reader.proofs.Numbers.{four-bytes}
 use native.Mathlib.Omega.{arith}
 use borrow.Author.Needs.{needs}
-use Rattle.reader.proofs.number.be32.Statement.{statement}
-use Rattle.reader.proofs.number.be32.Tie as tie
+use Rattle.reader.proofs.record.be32.Statement.{statement}
+use Rattle.reader.proofs.record.be32.Tie as tie
 
 be16-requires : tie.Need-be16-requires
 be16-requires c κs = search needs

@@ -1,0 +1,78 @@
+-- A legal order lists no more operations than there are: a list of different numbers below n has at most n of them.
+use Prim.Native.Nat.{ℕ, zero, suc, _≤_, _<_}
+use native.Mathlib.Omega.{arith}
+use native.Mathlib.Decide.{decLt}
+use mathlib.Core.Path.{_≡_, sym, _∙_}
+use mathlib.Core.Logic.{_⊎_, inl, inr}
+use mathlib.Core.List.{List}
+use lib.ListN.{length}
+use lib.Dec.{ltb}
+use borrow.Author.Tests.{lt-ltb, le-ltb}
+use Rattle.reader.specs.Choice.{if_then_else_}
+use Rattle.reader.proofs.Search.{Lowest, None, lowest, decEq}
+use Rattle.history.specs.History.{History}
+use Rattle.history.specs.Linearization.{placed, Linearization}
+
+-- the numbers other than i, in their order
+skip : ℕ → ℕ → ℕ
+skip i j = if ltb j i then j else suc j
+
+skip-is : (i j : ℕ) → ((j < i) × (skip i j ≡ j)) ⊎ ((i ≤ j) × (skip i j ≡ suc j))
+unfolding skip
+skip-is i j = go (decLt j i)
+  where
+    go : Dec (j < i) → ((j < i) × (skip i j ≡ j)) ⊎ ((i ≤ j) × (skip i j ≡ suc j))
+    go (yes l) = inl (l, rw (lt-ltb j i l))
+    go (no l) = let m : i ≤ j = omega arith in inr (m, rw (le-ltb j i m))
+
+skip-rises : (i j k : ℕ) → j < k → skip i j < skip i k
+skip-rises i j k l = go (skip-is i j) (skip-is i k)
+  where
+    go : ((j < i) × (skip i j ≡ j)) ⊎ ((i ≤ j) × (skip i j ≡ suc j)) → ((k < i) × (skip i k ≡ k)) ⊎ ((i ≤ k) × (skip i k ≡ suc k)) → skip i j < skip i k
+    go (inl a) (inl b) = omega (arith, a .1, b .1)
+    go (inl a) (inr b) = omega (arith, a .1, b .1)
+    go (inr a) (inl b) = absurd (omega (arith, a .0, b .0))
+    go (inr a) (inr b) = omega (arith, a .1, b .1)
+
+skip-misses : (i j : ℕ) → skip i j ≡ i → ⊥
+skip-misses i j e = go (skip-is i j)
+  where
+    go : ((j < i) × (skip i j ≡ j)) ⊎ ((i ≤ j) × (skip i j ≡ suc j)) → ⊥
+    go (inl a) = omega (arith, a .0, a .1)
+    go (inr a) = omega (arith, a .0, a .1)
+
+skip-below : (i j k : ℕ) → j < k → skip i j < suc k
+skip-below i j k l = go (skip-is i j)
+  where
+    go : ((j < i) × (skip i j ≡ j)) ⊎ ((i ≤ j) × (skip i j ≡ suc j)) → skip i j < suc k
+    go (inl a) = omega (arith, a .1)
+    go (inr a) = omega (arith, a .1)
+
+-- either n is not among them, or without it there is one less, all below n
+different : (f : ℕ → ℕ) (k n : ℕ) → ((i : ℕ) → i < k → f i < n) → ((i j : ℕ) → i < j → j < k → f i ≡ f j → ⊥) → k ≤ n
+different f zero n small apart = omega arith
+different f (suc k) zero small apart = absurd (omega (arith, small 0 (omega arith)))
+different f (suc k) (suc n) small apart = go (lowest (λ i. f i ≡ n) (λ i. decEq (f i) n) (suc k)) (different f (suc k) n) (λ i. different (λ j. f (skip i j)) k n)
+  where
+    alone : (i j : ℕ) → i < suc k → j < suc k → f i ≡ f j → Dec (i < j) → Dec (j < i) → i ≡ j
+    alone i j a b e (yes l) d = absurd (apart i j l b e)
+    alone i j a b e (no l) (yes m) = absurd (apart j i m a (sym e))
+    alone i j a b e (no l) (no m) = omega arith
+
+    go : Lowest (λ i. f i ≡ n) (suc k) ⊎ None (λ i. f i ≡ n) (suc k)
+        → (((i : ℕ) → i < suc k → f i < n) → ((i j : ℕ) → i < j → j < suc k → f i ≡ f j → ⊥) → suc k ≤ n)
+        → ((i : ℕ) → ((j : ℕ) → j < k → f (skip i j) < n) → ((j m : ℕ) → j < m → m < k → f (skip i j) ≡ f (skip i m) → ⊥) → k ≤ n)
+        → suc k ≤ suc n
+    go (inr none) all less = omega (arith, all (λ i l. let other : f i ≡ n → ⊥ = none i l in omega (arith, small i l)) apart)
+    go (inl s) all less =
+        let others : (j : ℕ) → j < k → f (skip (s .at) j) ≡ n → ⊥ = λ j l e.
+        skip-misses (s .at) j (alone (skip (s .at) j) (s .at) (skip-below (s .at) j k l) (s .below) (e ∙ sym (s .holds)) (decLt (skip (s .at) j) (s .at)) (decLt (s .at) (skip (s .at) j))) in
+        omega (
+          arith,
+          less (s .at)
+              (λ j l. let other : f (skip (s .at) j) ≡ n → ⊥ = others j l in omega (arith, small (skip (s .at) j) (skip-below (s .at) j k l)))
+              (λ j m l h. apart (skip (s .at) j) (skip (s .at) m) (skip-rises (s .at) j m l) (skip-below (s .at) m k h)),
+        )
+
+pub order-short : (h : History) (order : List ℕ) → Linearization h order → length order ≤ h .count
+order-short h order legal = different (placed order) (length order) (h .count) (legal .known) (legal .once)

@@ -1,0 +1,112 @@
+-- Whether a list is a legal order of a history is decided, in a form that computes.
+use Prim.Native.Nat.{ℕ, zero, suc, _<_}
+use native.Mathlib.Omega.{arith}
+use native.Mathlib.Decide.{ℕ-discrete, decLt}
+use mathlib.Core.Path.{_≡_, refl}
+use mathlib.Core.Logic.{Dec·and, Dec·not}
+use mathlib.Core.List.{List, [], _∷_, _++_}
+use lib.ListN.{length}
+use Rattle.history.specs.History.{History, add, remove, emptyRemove}
+use Rattle.history.specs.Linearization.{Makes, puts, takes, meets, Fifo, done, then, placed, Listed, Linearization}
+
+-- a statement on all numbers below a bound is decided by deciding it for each
+unfoldable pub all-below? : {P : ℕ → Type 0} → ((i : ℕ) → Dec (P i)) → (n : ℕ) → Dec ((i : ℕ) → i < n → P i)
+all-below? d zero = yes (λ i h. absurd (omega arith))
+all-below? {P} d (suc n) = go (all-below? d n) (d n)
+  where
+    one-more : ((i : ℕ) → i < n → P i) → P n → (i : ℕ) → i < suc n → Dec (i < n) → P i
+    one-more all p i h (yes l) = all i l
+    one-more all p i h (no l) = let e : i ≡ n = omega arith in rw e p
+
+    go : Dec ((i : ℕ) → i < n → P i) → Dec (P n) → Dec ((i : ℕ) → i < suc n → P i)
+    go (yes all) (yes p) = yes (λ i h. one-more all p i h (decLt i n))
+    go (yes all) (no q) = no (λ more. q (more n (omega arith)))
+    go (no q) e = no (λ more. q (λ i h. more i (omega arith)))
+
+-- that one statement follows from another is decided by deciding both
+unfoldable pub implies? : {P Q : Type 0} → Dec P → Dec Q → Dec (P → Q)
+implies? (yes p) (yes q) = yes (λ h. q)
+implies? (yes p) (no n) = no (λ f. n (f p))
+implies? (no n) e = yes (λ p. absurd (n p))
+
+-- a statement is decided by deciding one that is equivalent
+unfoldable pub equivalent? : {P Q : Type 0} → (P → Q) → (Q → P) → Dec P → Dec Q
+equivalent? to from (yes p) = yes (to p)
+equivalent? to from (no n) = no (λ q. n (from q))
+
+-- whether an operation stands in an order
+unfoldable pub listed? : (order : List ℕ) (o : ℕ) → Dec (Listed order o)
+listed? [] o = no (λ l. omega (arith, l .below))
+listed? (p ∷ order) o = go (ℕ-discrete p o) (listed? order o)
+  where
+    further : (p ≡ o → ⊥) → (i : ℕ) → i < length (p ∷ order) → placed (p ∷ order) i ≡ o → Listed order o
+    further n zero below here = absurd (n here)
+    further n (suc i) below here = record { at = i; below = omega arith; here = here }
+
+    go : Dec (p ≡ o) → Dec (Listed order o) → Dec (Listed (p ∷ order) o)
+    go (yes e) d = yes (record { at = 0; below = omega arith; here = e })
+    go (no n) (yes l) = yes (record { at = suc (l .at); below = omega (arith, l .below); here = l .here })
+    go (no n) (no m) = no (λ l. m (further n (l .at) (l .below) (l .here)))
+
+-- whether there is something that an operation makes of a queue
+unfoldable pub makes? : (h : History) (o : ℕ) (queue : List ℕ) → Dec ((queue' : List ℕ) × Makes h o queue queue')
+makes? h o [] = go (ℕ-discrete (h .kind o) add) (ℕ-discrete (h .kind o) emptyRemove)
+  where
+    neither : (h .kind o ≡ add → ⊥) → (h .kind o ≡ emptyRemove → ⊥) → {queue' : List ℕ} → Makes h o [] queue' → ⊥
+    neither n m (puts a) = n a
+    neither n m (meets e) = m e
+
+    go : Dec (h .kind o ≡ add) → Dec (h .kind o ≡ emptyRemove) → Dec ((queue' : List ℕ) × Makes h o [] queue')
+    go (yes a) d = yes (h .value o ∷ [], puts a)
+    go (no n) (yes e) = yes ([], meets e)
+    go (no n) (no m) = no (λ made. neither n m (made .1))
+makes? h o (v ∷ queue) = go (ℕ-discrete (h .kind o) add) (Dec·and (ℕ-discrete (h .kind o) remove) (ℕ-discrete (h .value o) v))
+  where
+    neither : (h .kind o ≡ add → ⊥) → ((h .kind o ≡ remove) × (h .value o ≡ v) → ⊥) → {queue' : List ℕ} → Makes h o (v ∷ queue) queue' → ⊥
+    neither n m (puts a) = n a
+    neither n m (takes r e) = m (r, e)
+
+    go : Dec (h .kind o ≡ add) → Dec ((h .kind o ≡ remove) × (h .value o ≡ v)) → Dec ((queue' : List ℕ) × Makes h o (v ∷ queue) queue')
+    go (yes a) d = yes (v ∷ queue ++ (h .value o ∷ []), puts a)
+    go (no n) (yes t) = yes (queue, takes (t .0) (t .1))
+    go (no n) (no m) = no (λ made. neither n m (made .1))
+
+-- it makes only one thing of it
+pub makes-one : {h : History} {o : ℕ} {queue left right : List ℕ} → Makes h o queue left → Makes h o queue right → left ≡ right
+makes-one (puts a) (puts b) = refl
+makes-one (puts a) (takes r e) = absurd (omega arith)
+makes-one (puts a) (meets e) = absurd (omega arith)
+makes-one (takes r e) (puts a) = absurd (omega arith)
+makes-one (takes r e) (takes r' e') = refl
+makes-one (meets e) (puts a) = absurd (omega arith)
+makes-one (meets e) (meets e') = refl
+
+-- a run begins with what its first operation makes of the queue
+pub fifo-first : {h : History} {o : ℕ} {order queue : List ℕ} → Fifo h (o ∷ order) queue → (queue' : List ℕ) × Makes h o queue queue' × Fifo h order queue'
+fifo-first (then {queue' = queue'} made rest) = (queue', made, rest)
+
+-- whether operations can be run from a queue on
+unfoldable pub fifo? : (h : History) (order queue : List ℕ) → Dec (Fifo h order queue)
+fifo? h [] queue = yes done
+fifo? h (o ∷ order) queue = go (makes? h o queue) (λ queue'. fifo? h order queue')
+  where
+    rest? : {queue' : List ℕ} → Makes h o queue queue' → Dec (Fifo h order queue') → Dec (Fifo h (o ∷ order) queue)
+    rest? made (yes rest) = yes (then made rest)
+    rest? made (no n) = no (λ run. n (rw (makes-one made (fifo-first run .1)) (fifo-first run .2)))
+
+    go : Dec ((queue' : List ℕ) × Makes h o queue queue') → ((queue' : List ℕ) → Dec (Fifo h order queue')) → Dec (Fifo h (o ∷ order) queue)
+    go (yes made) d = rest? (made .1) (d (made .0))
+    go (no n) d = no (λ run. n (fifo-first run .0, fifo-first run .1))
+
+-- whether a list is a legal order of a history
+unfoldable pub linearization? : (h : History) (order : List ℕ) → Dec (Linearization h order)
+unfolding all-below? implies? equivalent? listed? makes? fifo? ℕ-discrete decLt Dec·and Dec·not
+linearization? h order =
+    equivalent?
+    (λ p. record { known = p .0; every = p .1 .0; once = λ i j l h. p .1 .1 .0 j h i l; keeps = λ i j l h. p .1 .1 .1 .0 j h i l; runs = p .1 .1 .1 .1 })
+    (λ l. (l .known, (l .every, (λ j h i k. l .once i j k h, (λ j h i k. l .keeps i j k h, l .runs)))))
+    (Dec·and (all-below? (λ i. decLt (placed order i) (h .count)) (length order))
+    (Dec·and (all-below? (λ o. implies? (decLt (h .ret o) (h .end)) (listed? order o)) (h .count))
+    (Dec·and (all-below? (λ j. all-below? (λ i. Dec·not (ℕ-discrete (placed order i) (placed order j))) j) (length order))
+    (Dec·and (all-below? (λ j. all-below? (λ i. Dec·not (decLt (h .ret (placed order j)) (h .call (placed order i)))) j) (length order))
+    (fifo? h order [])))))

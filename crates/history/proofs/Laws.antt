@@ -1,0 +1,138 @@
+-- The laws of the history of a readable log, for everything above. specs/History.antt says what each part means.
+use Prim.Native.Nat.{ℕ, _≤_, _<_}
+use native.Mathlib.Omega.{arith}
+use native.Mathlib.Decide.{decLt}
+use mathlib.Core.Path.{_≡_, refl, sym, ap, _∙_}
+use mathlib.Core.List.{List}
+use lib.ListN.{length, take}
+use borrow.Author.Tests.{lt-ltb, le-ltb}
+use Rattle.reader.specs.Log.{isCall, operations}
+use Rattle.reader.specs.Readable.{recordOf, asks, leaves, ReadableLog}
+use Rattle.reader.specs.declared.record.Removed.{Removed}
+use Rattle.reader.specs.declared.record.Removed.the-variants.{Value, Empty}
+use Rattle.reader.specs.declared.record.Event.{Event}
+use Rattle.reader.specs.declared.record.Event.the-variants.{CallAdd, CallRemove, ReturnAdd, ReturnRemove}
+use Rattle.reader.specs.declared.record.Record.{Record}
+use Rattle.history.specs.History.{add, emptyRemove, Returned, Lawful}
+use Rattle.history.specs.Operations.{callIndex, returnIndex, positionOf, historyOf}
+use Rattle.history.proofs.Numbering.{Called, call-of, calls-rise, return-is-next, next-is-return}
+use Rattle.history.proofs.Events.{asks-call, leaves-call, asks-remove}
+use Rattle.history.proofs.Positions.{position-within, position-apart, position-next, position-calls}
+
+module _ {log : List ℕ} {records : List Record} (readable : ReadableLog log records) where
+  -- the call and the return of an operation
+  abbrev callOf : ℕ → ℕ
+  callOf o = callIndex records o
+
+  abbrev returnOf : ℕ → ℕ
+  returnOf o = returnIndex records (callOf o)
+
+  -- what returns below the end returns at the position of its return
+  returned-at : (o : ℕ) → returnOf o < length records → historyOf records .ret o ≡ positionOf records (returnOf o)
+  returned-at o l = rw (lt-ltb _ _ l) refl
+
+  never-returned : (o : ℕ) → length records ≤ returnOf o → historyOf records .ret o ≡ length records
+  never-returned o l = rw (le-ltb _ _ l) refl
+
+  -- the events of an operation: an add's call, or a remove's call and its return
+  data Shape (o : ℕ) : Type 0 where
+    adds : (v : ℕ) → recordOf records (callOf o) .event ≡ CallAdd v → Shape o
+    removes : (x : Removed) → recordOf records (callOf o) .event ≡ CallRemove → returnOf o < length records → recordOf records (returnOf o) .event ≡ ReturnRemove x → Shape o
+
+  shape : (o : ℕ) → o < operations records → Shape o
+  shape o h = go (recordOf records (callOf o) .event) refl (call .is-call)
+    where
+      call : Called records o
+      call = call-of records o h
+
+      go : (e : Event) → recordOf records (callOf o) .event ≡ e → isCall (recordOf records (callOf o) .event) ≡ 1 → Shape o
+      go (CallAdd v) e c = adds v e
+      go CallRemove e c =
+          let (j, next) = readable .returned (callOf o) (call .below) e in
+          let same : returnOf o ≡ j = next-is-return records (callOf o) j next in
+          let (x, back) = asks-remove (recordOf records j .event) (readable .partial .next (callOf o) j next ∙ ap leaves e) in
+          removes x e (omega (arith, next .there)) (ap (λ k. recordOf records k .event) same ∙ back)
+      go ReturnAdd e c = absurd (omega (arith, ap isCall e))
+      go (ReturnRemove x) e c = absurd (omega (arith, ap isCall e))
+
+  kinds : (o : ℕ) → o < operations records → (add ≤ historyOf records .kind o) × (historyOf records .kind o ≤ emptyRemove)
+  kinds o h = go (shape o h)
+    where
+      go : Shape o → (add ≤ historyOf records .kind o) × (historyOf records .kind o ≤ emptyRemove)
+      go (adds v e) = rw e (omega arith, omega arith)
+      go (removes (Value v) e l r) = rw (e, r) (omega arith, omega arith)
+      go (removes Empty e l r) = rw (e, r) (omega arith, omega arith)
+
+  spans : (o : ℕ) → o < operations records → historyOf records .call o < historyOf records .ret o
+  spans o h = go (decLt (returnOf o) (length records))
+    where
+      go : Dec (returnOf o < length records) → historyOf records .call o < historyOf records .ret o
+      go (yes l) = rw (returned-at o l) (position-next records (callOf o) (returnOf o) (return-is-next records (callOf o) l))
+      go (no l) = rw (never-returned o (omega arith)) (position-within records (callOf o) (call-of records o h .below))
+
+  ends : (o : ℕ) → historyOf records .ret o ≤ length records
+  ends o = go (decLt (returnOf o) (length records))
+    where
+      go : Dec (returnOf o < length records) → historyOf records .ret o ≤ length records
+      go (yes l) = rw (returned-at o l) (omega (arith, position-within records (returnOf o) l))
+      go (no l) = rw (never-returned o (omega arith)) (omega arith)
+
+  returned : (o : ℕ) → o < operations records → (historyOf records .kind o ≡ add → ⊥) → Returned (historyOf records) o
+  returned o h n = go (shape o h)
+    where
+      go : Shape o → Returned (historyOf records) o
+      go (adds v e) = absurd (n (rw e refl))
+      go (removes x e l r) = rw (returned-at o l) (position-within records (returnOf o) l)
+
+  -- a return is no call
+  other : (o p : ℕ) → o < operations records → p < operations records → returnOf o < length records → returnOf o ≡ callOf p → ⊥
+  other o p h k l e =
+      leaves-call (recordOf records (callOf o) .event) (call-of records o h .is-call)
+      (sym (readable .partial .next (callOf o) (returnOf o) (return-is-next records (callOf o) l))
+      ∙ ap (λ i. asks (recordOf records i .event)) e
+      ∙ asks-call (recordOf records (callOf p) .event) (call-of records p k .is-call))
+
+  apart : (o p : ℕ) → o < operations records → p < operations records → historyOf records .ret o ≡ historyOf records .call p → ⊥
+  apart o p h k e = go (decLt (returnOf o) (length records))
+    where
+      go : Dec (returnOf o < length records) → ⊥
+      go (yes l) = other o p h k l (position-apart records (returnOf o) (callOf p) (sym (returned-at o l) ∙ e))
+      go (no l) = omega (arith, never-returned o (omega arith), position-within records (callOf p) (call-of records p k .below))
+
+  -- one value, one call, one operation
+  add-call : (o : ℕ) → o < operations records → historyOf records .kind o ≡ add → recordOf records (callOf o) .event ≡ CallAdd (historyOf records .value o)
+  add-call o h k = go (shape o h)
+    where
+      go : Shape o → recordOf records (callOf o) .event ≡ CallAdd (historyOf records .value o)
+      go (adds v e) = rw e refl
+      go (removes (Value v) e l r) = let z : 2 ≡ add = rw (e, r) at k in absurd (omega arith)
+      go (removes Empty e l r) = let z : 3 ≡ add = rw (e, r) at k in absurd (omega arith)
+
+  once : (a b : ℕ) → a < operations records → b < operations records → historyOf records .kind a ≡ add → historyOf records .kind b ≡ add
+      → historyOf records .value a ≡ historyOf records .value b → a ≡ b
+  once a b h k ka kb e = go (decLt (callOf a) (callOf b)) (decLt (callOf b) (callOf a))
+    where
+      in-a : recordOf records (callOf a) .event ≡ CallAdd (historyOf records .value b)
+      in-a = rw (← e) (add-call a h ka)
+
+      in-b : recordOf records (callOf b) .event ≡ CallAdd (historyOf records .value b)
+      in-b = add-call b k kb
+
+      go : Dec (callOf a < callOf b) → Dec (callOf b < callOf a) → a ≡ b
+      go (yes l) d = absurd (readable .partial .once (callOf a) (callOf b) (historyOf records .value b) l (call-of records b k .below) in-a in-b)
+      go (no l) (yes m) = absurd (readable .partial .once (callOf b) (callOf a) (historyOf records .value b) m (call-of records a h .below) in-b in-a)
+      go (no l) (no m) =
+          let same : callOf a ≡ callOf b = omega arith in
+          sym (call-of records a h .rank) ∙ ap (λ i. operations (take i records)) same ∙ call-of records b k .rank
+
+-- the history of a readable log
+pub history-lawful : {log : List ℕ} {records : List Record} → ReadableLog log records → Lawful (historyOf records)
+history-lawful {records = records} readable = record {
+  kinds = kinds readable;
+  spans = spans readable;
+  ends = λ o h. ends readable o;
+  returned = returned readable;
+  apart = apart readable;
+  numbered = λ o p l h. position-calls records (callIndex records o) (callIndex records p) (calls-rise records o p l h) (call-of records p h .below) (call-of records o (omega arith) .is-call) (call-of records p h .is-call);
+  once = once readable;
+}

@@ -1,0 +1,14 @@
+pub mod Agreeing
+pub mod Counting
+pub mod Deciding
+pub mod Entries
+pub mod Events
+pub mod Filling
+pub mod Laws
+pub mod Noting
+pub mod Numbering
+pub mod Positions
+pub mod Reaching
+pub mod Rows
+pub mod Searching
+pub mod Sheets

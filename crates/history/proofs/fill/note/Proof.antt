@@ -1,0 +1,154 @@
+-- `note` meets its contract: the laws of `Noting.antt` say what a call and what a return do to the tables.
+use borrow.Author.Needs.{needs}
+use Rattle.history.proofs.fill.note.Statement.{statement}
+use Rattle.history.proofs.fill.note.Tie as tie
+use Rattle.history.proofs.Noting.{noted-call, noted-return, add-fits, remove-fits}
+use mathlib.Core.Path.{refl}
+use native.Mathlib.Omega.{arith}
+
+cast-client : tie.Need-cast-client
+cast-client c = search needs
+
+cast-at : tie.Need-cast-at
+cast-at c = search needs
+
+enum-known-event : tie.Need-enum-known-event
+enum-known-event c = search needs
+
+begin-requires : tie.Need-begin-requires
+begin-requires c κs = search needs
+
+cast-enter : tie.Need-cast-enter
+cast-enter c = search needs
+
+enter-requires : tie.Need-enter-requires
+enter-requires c κs = search needs
+
+add-result : tie.Need-add-result
+add-result c = search needs
+
+enum-told : tie.Need-enum-told
+enum-told c = search needs
+
+begin-requires-2 : tie.Need-begin-requires-2
+begin-requires-2 c κs = search needs
+
+cast-enter-2 : tie.Need-cast-enter-2
+cast-enter-2 c = search needs
+
+enter-requires-2 : tie.Need-enter-requires-2
+enter-requires-2 c κs = search needs
+
+add-result-2 : tie.Need-add-result-2
+add-result-2 c = search needs
+
+enum-told-2 : tie.Need-enum-told-2
+enum-told-2 c = search needs
+
+latest-of-requires : tie.Need-latest-of-requires
+latest-of-requires c κs = c .before .before .before .before .before .pre .recent-small _
+
+mul-value : tie.Need-mul-value
+mul-value c = search needs
+
+add-value : tie.Need-add-value
+add-value c = search needs
+
+mul-value-2 : tie.Need-mul-value-2
+mul-value-2 c = search needs
+
+element-copy-out-value : tie.Need-element-copy-out-value
+element-copy-out-value c = search needs
+
+mul-call : tie.Need-mul-call
+mul-call c = search needs
+
+add-call : tie.Need-add-call
+add-call c = search needs
+
+mul-call-2 : tie.Need-mul-call-2
+mul-call-2 c = search needs
+
+element-copy-out-call : tie.Need-element-copy-out-call
+element-copy-out-call c = search needs
+
+enter-requires-3 : tie.Need-enter-requires-3
+enter-requires-3 c κs = search needs
+
+enum-known-event-2 : tie.Need-enum-known-event-2
+enum-known-event-2 c = search needs
+
+latest-of-requires-2 : tie.Need-latest-of-requires-2
+latest-of-requires-2 c κs = c .before .before .before .before .before .before .pre .recent-small _
+
+outcome-of-requires : tie.Need-outcome-of-requires
+outcome-of-requires c κs = search needs
+
+mul-call-3 : tie.Need-mul-call-3
+mul-call-3 c = search needs
+
+add-call-2 : tie.Need-add-call-2
+add-call-2 c = search needs
+
+mul-call-4 : tie.Need-mul-call-4
+mul-call-4 c = search needs
+
+element-copy-out-call-2 : tie.Need-element-copy-out-call-2
+element-copy-out-call-2 c = search needs
+
+enter-requires-4 : tie.Need-enter-requires-4
+enter-requires-4 c κs = search needs
+
+returns : tie.Need-returns
+returns c = noted-call _ _ _ _ _ _ _ _ _ _ _ (c .before .before .before .before .before .before .event .given .1) refl (c .before .before .before .before .before .before .before .before .before .pre .count-small) (c .before .before .begin .ensures .0) (c .before .before .begin .ensures .1) (c .enter .ensures)
+
+returns-2 : tie.Need-returns-2
+returns-2 c = noted-call _ _ _ _ _ _ _ _ _ _ _ (c .before .before .before .before .before .enum-told .given .1) refl (c .before .before .before .before .before .before .before .before .pre .count-small) (c .before .before .begin2 .ensures .0) (c .before .before .begin2 .ensures .1) (c .enter2 .ensures)
+
+returns-3 : tie.Need-returns-3
+returns-3 c = noted-return _ _ _ _ _ _ _ _ _ (c .before .before .before .before .before .before .before .enum-told2 .given .1) (λ e. omega arith) refl _ _ _ (c .before .before .before .before .latest-of .ensures)
+    (add-fits (c .before .before .before .before .before .before .before .before .before .before .args .table .now) (c .before .before .before .before .latest-of .result)) (c .enter3 .ensures)
+
+returns-4 : tie.Need-returns-4
+returns-4 c = noted-return _ _ _ _ _ _ _ _ _ (c .before .before .before .before .before .before .before .before .event2 .given .1) (λ e. omega arith) refl _ _ _ (c .before .before .before .before .latest-of2 .ensures)
+    (remove-fits (c .before .before .before .before .before .before .before .before .before .before .before .args .table .now) (c .before .before .before .before .latest-of2 .result) _ _ _ (c .before .before .before .outcome-of .ensures .0) (c .before .before .before .outcome-of .ensures .1)) (c .enter4 .ensures)
+
+pub note-spec : {M : Type 1} → statement M
+note-spec =
+    tie.close
+    (tie.spec
+    cast-client
+    cast-at
+    enum-known-event
+    begin-requires
+    cast-enter
+    enter-requires
+    add-result
+    enum-told
+    begin-requires-2
+    cast-enter-2
+    enter-requires-2
+    add-result-2
+    enum-told-2
+    latest-of-requires
+    mul-value
+    add-value
+    mul-value-2
+    element-copy-out-value
+    mul-call
+    add-call
+    mul-call-2
+    element-copy-out-call
+    enter-requires-3
+    enum-known-event-2
+    latest-of-requires-2
+    outcome-of-requires
+    mul-call-3
+    add-call-2
+    mul-call-4
+    element-copy-out-call-2
+    enter-requires-4
+    returns
+    returns-2
+    returns-3
+    returns-4)

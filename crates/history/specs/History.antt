@@ -1,0 +1,48 @@
+-- A history: all that is known of a run above the log. Its operations are numbered from 0 on, and time is positions: numbers
+-- that grow with it.
+use Prim.Native.Nat.{ℕ, _≤_, _<_}
+use mathlib.Core.Path.{_≡_}
+
+-- the kinds of an operation: an add, a remove that came back with a value, a remove that came back empty
+abbrev pub add : ℕ
+add = 1
+
+abbrev pub remove : ℕ
+remove = 2
+
+abbrev pub emptyRemove : ℕ
+emptyRemove = 3
+
+pub record History : Type 0 where
+  -- how many operations there are
+  pub count : ℕ
+  pub kind : ℕ → ℕ
+  -- the value that is added or removed
+  pub value : ℕ → ℕ
+  -- the positions of the call and of the return; what is pending (document 01: open) returns at the end
+  pub call : ℕ → ℕ
+  pub ret : ℕ → ℕ
+  -- a number above every position
+  pub end : ℕ
+
+abbrev pub Returned : History → ℕ → Type 0
+Returned h o = h .ret o < h .end
+
+-- "Operation o precedes p if o's return record stands before p's call record."
+abbrev pub Precedes : History → ℕ → ℕ → Type 0
+Precedes h o p = h .ret o < h .call p
+
+-- What holds of the history of every readable log, whatever the positions of its records are.
+pub record Lawful (h : History) : Type 0 where
+  pub kinds : (o : ℕ) → o < h .count → (add ≤ h .kind o) × (h .kind o ≤ emptyRemove)
+  -- an operation is called before it returns
+  pub spans : (o : ℕ) → o < h .count → h .call o < h .ret o
+  pub ends : (o : ℕ) → o < h .count → h .ret o ≤ h .end
+  -- only adds are pending
+  pub returned : (o : ℕ) → o < h .count → (h .kind o ≡ add → ⊥) → Returned h o
+  -- no return and call stand at the same position
+  pub apart : (o p : ℕ) → o < h .count → p < h .count → h .ret o ≡ h .call p → ⊥
+  -- "Operations are numbered from 0 in the order of their call records."
+  pub numbered : (o p : ℕ) → o < p → p < h .count → h .call o < h .call p
+  -- no value is added twice
+  pub once : (a b : ℕ) → a < h .count → b < h .count → h .kind a ≡ add → h .kind b ≡ add → h .value a ≡ h .value b → a ≡ b

@@ -1,0 +1,6 @@
+pub mod History
+pub mod Linearization
+pub mod Operations
+pub mod Sheet
+pub mod Runs
+pub mod Table

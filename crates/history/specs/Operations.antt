@@ -1,0 +1,68 @@
+-- The operations that the records of a log tell of. Document 01, "The log": "Operations are numbered from 0 in the order of
+-- their call records."
+use Prim.Native.Nat.{ℕ, suc, _+_, _-_}
+use mathlib.Core.List.{List, [], _∷_}
+use lib.ListN.{length, drop}
+use lib.Dec.{ltb, eqb}
+use Rattle.reader.specs.Choice.{if_then_else_}
+use Rattle.reader.specs.Log.{isCall, operations}
+use Rattle.reader.specs.Readable.{recordOf, valueIn}
+use Rattle.reader.specs.declared.record.Removed.the-variants.{Value, Empty}
+use Rattle.reader.specs.declared.record.Event.{Event}
+use Rattle.reader.specs.declared.record.Event.the-variants.{CallAdd, CallRemove, ReturnAdd, ReturnRemove}
+use Rattle.reader.specs.declared.record.Record.{Record}
+use Rattle.history.specs.History.{History, add, remove, emptyRemove}
+
+-- the index of the call record of operation o
+unfoldable pub callIndex : List Record → ℕ → ℕ
+callIndex [] o = 0
+callIndex (r ∷ records) o = if ltb o (isCall (r .event)) then 0 else suc (callIndex records (o - isCall (r .event)))
+
+-- the index of the first record of a client, or the number of records if there is none
+unfoldable pub firstOf : ℕ → List Record → ℕ
+firstOf client [] = 0
+firstOf client (r ∷ records) = if eqb (r .client) client then 0 else suc (firstOf client records)
+
+-- the index of the return of the call at index i: the next record of its client, or the number of records if there is none
+abbrev pub returnIndex : List Record → ℕ → ℕ
+returnIndex records i = i + 1 + firstOf (recordOf records i .client) (drop (i + 1) records)
+
+-- the kind of a remove, by the event of its return; 0 for no return of a remove
+abbrev pub removeKind : Event → ℕ
+removeKind (CallAdd v) = 0
+removeKind CallRemove = 0
+removeKind ReturnAdd = 0
+removeKind (ReturnRemove (Value v)) = remove
+removeKind (ReturnRemove Empty) = emptyRemove
+
+-- the kind and the value of an operation, by the events of its call and of its return
+abbrev pub kindBy : Event → Event → ℕ
+kindBy (CallAdd v) return = add
+kindBy CallRemove return = removeKind return
+kindBy ReturnAdd return = 0
+kindBy (ReturnRemove x) return = 0
+
+abbrev pub valueBy : Event → Event → ℕ
+valueBy (CallAdd v) return = v
+valueBy CallRemove return = valueIn return
+valueBy ReturnAdd return = 0
+valueBy (ReturnRemove x) return = 0
+
+-- Where the record with an index stands in time. Everything above knows positions by the laws of `Lawful`, not that they are indices.
+unfoldable pub positionOf : List Record → ℕ → ℕ
+positionOf records i = i
+
+-- the position of a return, or a number above every position if there is none
+abbrev pub returnPosition : List Record → ℕ → ℕ
+returnPosition records i = if ltb i (length records) then positionOf records i else length records
+
+-- the history of a log with these records
+abbrev pub historyOf : List Record → History
+historyOf records = record {
+  count = operations records;
+  kind = λ o. kindBy (recordOf records (callIndex records o) .event) (recordOf records (returnIndex records (callIndex records o)) .event);
+  value = λ o. valueBy (recordOf records (callIndex records o) .event) (recordOf records (returnIndex records (callIndex records o)) .event);
+  call = λ o. positionOf records (callIndex records o);
+  ret = λ o. returnPosition records (returnIndex records (callIndex records o));
+  end = length records;
+}

@@ -1,0 +1,107 @@
+-- What the code keeps of a history: a table of numbers, four for each operation. What a history is can be understood without this file.
+use Prim.Native.Nat.{ℕ, _+_, _*_, _%_, _≤_, _<_}
+use mathlib.Core.Path.{_≡_}
+use mathlib.Core.List.{List}
+use lib.ListN.{length, getD, take}
+use Rattle.reader.specs.Log.{maxRecords, Reading, readable, refused, readLog, operations}
+use Rattle.reader.specs.Readable.{recordOf, ReadableLog}
+use Rattle.reader.specs.declared.record.Event.{Event}
+use Rattle.reader.specs.declared.record.Event.the-variants.{CallRemove}
+use Rattle.reader.specs.declared.record.Record.{Record}
+use Rattle.history.specs.History.{History}
+use Rattle.history.specs.Operations.{callIndex, returnIndex, kindBy, valueBy, historyOf}
+
+abbrev pub fields : ℕ
+fields = 4
+
+-- the entries of a table, four for each operation that a log may have
+abbrev pub tableLength : ℕ
+tableLength = 4096
+
+-- the history that a table holds, of so many operations and with this end
+abbrev pub tabled : ℕ → ℕ → List ℕ → History
+tabled count end table = record {
+  count = count;
+  kind = λ o. getD table (o * fields + 0) 0;
+  value = λ o. getD table (o * fields + 1) 0;
+  call = λ o. getD table (o * fields + 2) 0;
+  ret = λ o. getD table (o * fields + 3) 0;
+  end = end;
+}
+
+-- Two histories agree on all that they tell of their operations.
+pub record Agree (h k : History) : Type 0 where
+  pub count : h .count ≡ k .count
+  pub end : h .end ≡ k .end
+  pub kind : (o : ℕ) → o < h .count → h .kind o ≡ k .kind o
+  pub value : (o : ℕ) → o < h .count → h .value o ≡ k .value o
+  pub call : (o : ℕ) → o < h .count → h .call o ≡ k .call o
+  pub ret : (o : ℕ) → o < h .count → h .ret o ≡ k .ret o
+
+-- The table holds the history of a log that is readable, and is as it was for one that is refused.
+abbrev pub Tabulated : Reading → List ℕ → List ℕ → Type 0
+Tabulated (readable records) before after = (length after ≡ tableLength) × Agree (tabled (operations records) (length records) after) (historyOf records)
+Tabulated (refused number index) before after = after ≡ before
+
+-- Operation o has this entry.
+pub record Entry (table : List ℕ) (o kind value call ret : ℕ) : Type 0 where
+  pub kind-is : getD table (o * fields + 0) 0 ≡ kind
+  pub value-is : getD table (o * fields + 1) 0 ≡ value
+  pub call-is : getD table (o * fields + 2) 0 ≡ call
+  pub ret-is : getD table (o * fields + 3) 0 ≡ ret
+
+-- Operation o has this entry now, and the others are as they were.
+pub record Entered (table : List ℕ) (o kind value call ret : ℕ) (table' : List ℕ) : Type 0 where
+  pub entry : Entry table' o kind value call ret
+  pub others : (p f : ℕ) → f < fields → (p ≡ o → ⊥) → getD table' (p * fields + f) 0 ≡ getD table (p * fields + f) 0
+  pub sized : length table' ≡ length table
+
+-- where it is kept which operation of a client was the latest: clients whose numbers differ by 1,024 share a slot
+abbrev pub slotOf : ℕ → ℕ
+slotOf client = client % maxRecords
+
+-- o is the latest of the first `count` operations that is of this client, or 0 if none is.
+pub record Latest (clients : List ℕ) (count client o : ℕ) : Type 0 where
+  pub small : o < maxRecords
+  pub found : (p : ℕ) → p < count → getD clients p 0 ≡ client → (o < count) × (getD clients o 0 ≡ client)
+  pub later : (p : ℕ) → o < p → p < count → getD clients p 0 ≡ client → ⊥
+
+-- The entry of operation o, with what this event of its return says and this position of it.
+abbrev pub Told : List Record → List ℕ → ℕ → Event → ℕ → Type 0
+Told records table o return ret =
+    Entry table o (kindBy (recordOf records (callIndex records o) .event) return) (valueBy (recordOf records (callIndex records o) .event) return) (callIndex records o) ret
+
+-- The tables hold what the first n records say: of each operation called by then its client and its call, its kind, value and
+-- return if it has returned by then, and otherwise what its call alone says.
+pub record Filled (records : List Record) (n count : ℕ) (clients recent table : List ℕ) : Type 0 where
+  pub counted : count ≡ operations (take n records)
+  pub clients-sized : length clients ≡ maxRecords
+  pub recent-sized : length recent ≡ maxRecords
+  pub table-sized : length table ≡ tableLength
+  -- no operation of a client has the number that stands in the client's slot, or a higher one
+  pub recent-small : (slot : ℕ) → getD recent slot 0 ≤ count
+  pub recent-above : (o : ℕ) → o < count → o < getD recent (slotOf (getD clients o 0)) 0
+  pub clients-are : (o : ℕ) → o < count → getD clients o 0 ≡ recordOf records (callIndex records o) .client
+  pub returned : (o : ℕ) → o < count → returnIndex records (callIndex records o) < n → Told records table o (recordOf records (returnIndex records (callIndex records o)) .event) (returnIndex records (callIndex records o))
+  pub pending : (o : ℕ) → o < count → n ≤ returnIndex records (callIndex records o) → Told records table o CallRemove (length records)
+
+-- There is room for one record more.
+pub record Room (index count end : ℕ) (clients recent table : List ℕ) : Type 0 where
+  pub index-small : index < maxRecords
+  pub count-small : count < maxRecords
+  pub end-small : end ≤ maxRecords
+  pub recent-small : (slot : ℕ) → getD recent slot 0 ≤ maxRecords
+  pub clients-sized : length clients ≡ maxRecords
+  pub recent-sized : length recent ≡ maxRecords
+  pub table-sized : length table ≡ tableLength
+
+-- The tables hold one record more, r, which has this index.
+pub record Noted (r : Record) (index count end : ℕ) (clients recent table : List ℕ) (count' : ℕ) (clients' recent' table' : List ℕ) : Type 0 where
+  pub kept : (log : List ℕ) (records : List Record) → ReadableLog log records → length records ≡ end → index < end → recordOf records index ≡ r
+      → Filled records index count clients recent table → Filled records (index + 1) count' clients' recent' table'
+
+-- A log that is readable, of so many records.
+pub record Whole (log : List ℕ) (count : ℕ) : Type 0 where
+  pub records : List Record
+  pub reads : readLog log ≡ readable records
+  pub counted : length records ≡ count

@@ -1,0 +1,134 @@
+// The table of operations is filled from the records of a readable log, one after the other.
+ghost use mathlib.Core.Path.{_≡_};
+ghost use Prim.Native.Nat.{_<_};
+ghost use lib.ListN.{length};
+ghost use Rattle.reader.specs.Log.{maxRecords, readLog};
+ghost use Rattle.reader.specs.Readable.{valueIn};
+ghost use Rattle.reader.specs.declared.record.Event.the-variants.{ReturnRemove};
+ghost use Rattle.history.specs.Operations.{removeKind};
+ghost use Rattle.history.specs.Table.{tableLength, Tabulated, Entered, Room, Noted, Whole};
+use crate::clients::Clients;
+use crate::clients::Recent;
+use crate::clients::begin;
+use crate::clients::latest_of;
+use crate::operations::ADD;
+use crate::operations::CALL;
+use crate::operations::EMPTY_REMOVE;
+use crate::operations::FIELDS;
+use crate::operations::KIND;
+use crate::operations::Operations;
+use crate::operations::REMOVE;
+use crate::operations::RETURN;
+use crate::operations::VALUE;
+use reader::cursor::read_at;
+use reader::format::HEADER;
+use reader::format::MAX_RECORDS;
+use reader::record::Decoded;
+use reader::record::Event;
+use reader::record::Record;
+use reader::record::Removed;
+
+// The kind of a remove until its return is read.
+const UNKNOWN: u32 = 0;
+
+// What a remove is, by its return.
+pub struct Outcome {
+    pub kind: u32,
+    pub value: u32,
+}
+
+fn outcome_of(removed: Removed) -> Outcome
+    ensures { λ x. ⌜ (x .kind ≡ removeKind (ReturnRemove removed)) × (x .value ≡ valueIn (ReturnRemove removed)) ⌝ }
+{
+    match removed {
+        Removed::Value(value) => Outcome {
+            kind: REMOVE,
+            value,
+        },
+        Removed::Empty => Outcome {
+            kind: EMPTY_REMOVE,
+            value: 0,
+        },
+    }
+}
+
+// Writes the entry of an operation.
+fn enter(table: &mut Operations, o: usize, kind: u32, value: u32, call: u32, returned: u32)
+    requires { ⌜ (o < maxRecords) × (length (now table) ≡ tableLength) ⌝ }
+    ensures { λ _. ⌜ Entered (now (table .entry)) o kind value call returned (now (table .exit)) ⌝ }
+{
+    let at = o * FIELDS;
+    table[at + KIND] = kind;
+    table[at + VALUE] = value;
+    table[at + CALL] = call;
+    table[at + RETURN] = returned;
+}
+
+// Notes the record with an index: a call begins an operation, which returns at the end so far, and a return ends its client's
+// latest operation. Answers how many operations there are then.
+fn note(
+    r: Record,
+    index: usize,
+    count: usize,
+    end: usize,
+    clients: &mut Clients,
+    recent: &mut Recent,
+    table: &mut Operations,
+) -> usize
+    requires { ⌜ Room index count end (now clients) (now recent) (now table) ⌝ }
+    ensures { λ q. ⌜ Noted r index count end (now (clients .entry)) (now (recent .entry)) (now (table .entry)) q (now (clients .exit)) (now (recent .exit)) (now (table .exit)) ⌝ }
+{
+    let client = r.client as u32;
+    let event = r.event;
+    let at = index as u32;
+    match event {
+        Event::CallAdd(value) => {
+            begin(clients, recent, count, client);
+            enter(table, count, ADD, value, at, end as u32);
+            count + 1
+        }
+        Event::CallRemove => {
+            begin(clients, recent, count, client);
+            enter(table, count, UNKNOWN, 0, at, end as u32);
+            count + 1
+        }
+        Event::ReturnAdd => {
+            let o = latest_of(clients, recent, client);
+            let value = table[o * FIELDS + VALUE];
+            let call = table[o * FIELDS + CALL];
+            enter(table, o, ADD, value, call, at);
+            count
+        }
+        Event::ReturnRemove(removed) => {
+            let o = latest_of(clients, recent, client);
+            let outcome = outcome_of(removed);
+            let call = table[o * FIELDS + CALL];
+            enter(table, o, outcome.kind, outcome.value, call, at);
+            count
+        }
+    }
+}
+
+// Fills the table from the records of a readable log.
+pub fn fill(log: &[u8], end: usize, table: &mut Operations)
+    requires { ⌜ Whole (now log) end × (length (now table) ≡ tableLength) ⌝ }
+    ensures { λ _. ⌜ Tabulated (readLog (now (log .entry))) (now (table .entry)) (now (table .exit)) ⌝ }
+{
+    let mut clients = [0u32; MAX_RECORDS];
+    let mut recent = [0u32; MAX_RECORDS];
+    let mut at = HEADER;
+    let mut count = 0;
+    let mut i = 0;
+    while i < end {
+        match read_at(log, at) {
+            Decoded::Malformed(_) => {
+                return;
+            }
+            Decoded::Found { record, next } => {
+                count = note(record, i, count, end, &mut clients, &mut recent, table);
+                at = next;
+            }
+        }
+        i += 1;
+    }
+}

@@ -1,0 +1,52 @@
+// The operations of a log in a table of numbers, four for each: its kind, its value, and the positions of its call and its
+// return. What they are is said in specs/Operations.antt, how the table holds them in specs/Table.antt.
+ghost use mathlib.Core.Path.{_≡_};
+ghost use lib.ListN.{length};
+ghost use Rattle.reader.specs.Log.{readLog, checked};
+ghost use Rattle.history.specs.Table.{tableLength, Tabulated};
+use crate::fill::fill;
+use reader::log::Checked;
+use reader::log::check;
+
+// The kinds of an operation.
+pub const ADD: u32 = 1;
+
+pub const REMOVE: u32 = 2;
+
+pub const EMPTY_REMOVE: u32 = 3;
+
+// The fields of an operation's entry, which starts at FIELDS times its number.
+pub const FIELDS: usize = 4;
+
+pub const KIND: usize = 0;
+
+pub const VALUE: usize = 1;
+
+pub const CALL: usize = 2;
+
+pub const RETURN: usize = 3;
+
+// A table with an entry for each operation that a log may have.
+pub const TABLE: usize = 4096;
+
+pub type Operations = [u32; TABLE];
+
+// Checks a log and, if it is readable, fills the table with its operations.
+pub fn tabulate(log: &[u8], table: &mut Operations) -> Checked
+    requires { ⌜ length (now table) ≡ tableLength ⌝ }
+    ensures { λ r. ⌜ (r ≡ checked (readLog (now (log .entry)))) × Tabulated (readLog (now (log .entry))) (now (table .entry)) (now (table .exit)) ⌝ }
+{
+    match check(log) {
+        Checked::Refused { number, index } => Checked::Refused { number, index },
+        Checked::Readable {
+            records,
+            operations,
+        } => {
+            fill(log, records, table);
+            Checked::Readable {
+                records,
+                operations,
+            }
+        }
+    }
+}

@@ -1,0 +1,5 @@
+pub mod Answering
+pub mod Laws
+pub mod Placing
+pub mod Running
+pub mod Serving

@@ -1,0 +1,87 @@
+-- What an operation makes of the queue that the code keeps in an array.
+use Prim.Native.Nat.{ℕ, _+_, _-_, _≤_, _<_}
+use native.Mathlib.Omega.{arith}
+use native.Mathlib.Numerals.{add-one}
+use mathlib.Core.Path.{_≡_, refl, sym, ap, _∙_}
+use mathlib.Core.List.{List, [], _∷_, _++_}
+use lib.ListN.{length, getD, set, take, length-set}
+use lib.Seq.{slice, slice-empty, slice-cons, length-slice, take-suc-set, drop-append-le, length-take-le}
+use Rattle.reader.specs.Log.{maxRecords}
+use Rattle.history.specs.History.{History, add, remove, emptyRemove}
+use Rattle.history.specs.Linearization.{Makes, puts, takes, meets}
+use Rattle.replay.specs.Trial.{waiting, Serves}
+use Rattle.replay.specs.declared.order.Progress.{Progress}
+use Rattle.replay.specs.declared.order.Step.the-variants.{Placed, Illegal}
+
+-- what a queue is that an operation of a kind makes something of
+makes-remove : {h : History} {o : ℕ} {queue rest : List ℕ} → Makes h o queue rest → h .kind o ≡ remove → queue ≡ h .value o ∷ rest
+makes-remove (puts a) k = absurd (omega arith)
+makes-remove (takes r v) k = rw v refl
+makes-remove (meets e) k = absurd (omega arith)
+
+makes-empty : {h : History} {o : ℕ} {queue rest : List ℕ} → Makes h o queue rest → h .kind o ≡ emptyRemove → queue ≡ []
+makes-empty (puts a) k = absurd (omega arith)
+makes-empty (takes r v) k = absurd (omega arith)
+makes-empty (meets e) k = refl
+
+makes-kind : {h : History} {o : ℕ} {queue rest : List ℕ} → Makes h o queue rest → (add ≤ h .kind o) × (h .kind o ≤ emptyRemove)
+makes-kind (puts a) = omega arith
+makes-kind (takes r v) = omega arith
+makes-kind (meets e) = omega arith
+
+module _ (kind value : ℕ) (p : Progress) (queue : List ℕ) (held : p .head ≤ p .tail) (room : p .tail < maxRecords) (sized : length queue ≡ maxRecords) where
+  few : length (waiting p queue) ≡ p .tail - p .head
+  few = length-slice (p .head) (p .tail) queue (omega arith)
+
+  -- an add puts its value at the back
+  back : waiting (record { latest = p .latest; head = p .head; tail = p .tail + 1 }) (set queue (p .tail) value) ≡ waiting p queue ++ (value ∷ [])
+  back = rw (add-one, take-suc-set queue (p .tail) value (omega arith)) (drop-append-le (p .head) (take (p .tail) queue) (value ∷ []) (omega (arith, length-take-le (p .tail) queue (omega arith))))
+
+  pub serves-add : kind ≡ add → Serves kind value p queue (Placed (record { latest = p .latest; head = p .head; tail = p .tail + 1 })) (set queue (p .tail) value)
+  serves-add k = record {
+    sized = length-set queue (p .tail) value ∙ sized;
+    served = λ h o e v. (rw (back, ← v) (puts (e ∙ k)), refl, omega arith, omega arith);
+  }
+
+  -- a remove with a value takes it from the front
+  front : p .head < p .tail → waiting p queue ≡ getD queue (p .head) 0 ∷ slice (p .head + 1) (p .tail) queue
+  front l = rw add-one (slice-cons (p .head) (p .tail) queue 0 l (omega arith))
+
+  pub serves-remove : kind ≡ remove → (p .head ≡ p .tail → ⊥) → getD queue (p .head) 0 ≡ value
+      → Serves kind value p queue (Placed (record { latest = p .latest; head = p .head + 1; tail = p .tail })) queue
+  serves-remove k n f = record {
+    sized = sized;
+    served = λ h o e v. (rw (front (omega arith)) (takes (e ∙ k) (v ∙ sym f)), refl, omega arith, omega arith);
+  }
+
+  pub serves-not-there : kind ≡ remove → p .head ≡ p .tail → Serves kind value p queue Illegal queue
+  serves-not-there k e = record {
+    sized = sized;
+    served = λ h o ek v rest made. omega (arith, few, ap length (makes-remove made (ek ∙ k)));
+  }
+
+  pub serves-not-front : kind ≡ remove → (p .head ≡ p .tail → ⊥) → (getD queue (p .head) 0 ≡ value → ⊥) → Serves kind value p queue Illegal queue
+  serves-not-front k n f = record {
+    sized = sized;
+    served = λ h o ek v rest made. let same : getD queue (p .head) 0 ∷ slice (p .head + 1) (p .tail) queue ≡ h .value o ∷ rest = sym (front (omega arith)) ∙ makes-remove made (ek ∙ k) in f (ap (λ l. getD l 0 0) same ∙ v);
+  }
+
+  -- an empty remove meets an empty queue
+  pub serves-empty : kind ≡ emptyRemove → p .head ≡ p .tail → Serves kind value p queue (Placed p) queue
+  serves-empty k e = record {
+    sized = sized;
+    served = λ h o ek v. (rw (e, slice-empty (p .tail) queue) (meets (ek ∙ k)), refl, omega arith, omega arith);
+  }
+
+  pub serves-not-empty : kind ≡ emptyRemove → (p .head ≡ p .tail → ⊥) → Serves kind value p queue Illegal queue
+  serves-not-empty k n = record {
+    sized = sized;
+    served = λ h o ek v rest made. omega (arith, few, ap length (makes-empty made (ek ∙ k)));
+  }
+
+  -- there is no other operation
+  pub serves-none : (kind ≡ add → ⊥) → (kind ≡ remove → ⊥) → (kind ≡ emptyRemove → ⊥) → Serves kind value p queue Illegal queue
+  serves-none a r m = record {
+    sized = sized;
+    served = λ h o ek v rest made. omega (arith, makes-kind made);
+  }

@@ -1,0 +1,36 @@
+-- What replay answers for a log and a sheet. Document 01, "Turned down by what was handed in", 11, and demand 2: replay says yes
+-- to a log and an order exactly if that order is legal for that log.
+use Prim.Native.Nat.{ℕ, _+_, _*_}
+use mathlib.Core.Bool.{Bool, false, not}
+use mathlib.Core.List.{List}
+use lib.ListN.{length, getD}
+use lib.Dec.{ltb, eqb}
+use Rattle.reader.specs.Choice.{if_then_else_}
+use Rattle.reader.specs.Log.{Reading, readable, refused}
+use Rattle.history.specs.Operations.{historyOf}
+use Rattle.history.specs.Sheet.{sheetVersion, orderVerdict, sheetHeader, listedField, listedOn}
+use Rattle.history.proofs.Deciding.{linearization?}
+use Rattle.replay.specs.declared.replay.Replayed.{Replayed}
+use Rattle.replay.specs.declared.replay.Replayed.the-variants.{Yes, No, Refused}
+
+abbrev pub wrongSheet : ℕ
+wrongSheet = 11
+
+-- 11: "the sheet has under 4 bytes, version not 1, verdict not 0, or length not 4 + 2k"
+abbrev pub isOrderSheet : List ℕ → Bool
+isOrderSheet sheet =
+    if ltb (length sheet) sheetHeader then false else
+    if not (eqb (getD sheet 0 0) sheetVersion) then false else
+    if not (eqb (getD sheet 1 0) orderVerdict) then false else
+    eqb (length sheet) (sheetHeader + 2 * listedField sheet)
+
+-- yes exactly if what is asked holds
+abbrev pub says : {P : Type 0} → Dec P → Replayed
+says (yes p) = Yes
+says (no n) = No
+
+-- Replay of a log, as it was read, and a sheet: the log's refusal, 11, or whether the sheet lists a legal order of the log's history.
+abbrev pub replayed : Reading → List ℕ → Replayed
+replayed (refused number index) sheet = Refused number index
+replayed (readable records) sheet =
+    if isOrderSheet sheet then says (linearization? (historyOf records) (listedOn sheet)) else Refused wrongSheet 0

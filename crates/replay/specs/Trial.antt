@@ -1,0 +1,97 @@
+-- What the code keeps while it runs an order: marks of the operations that it has placed, the latest call among them, and the queue.
+-- What replay answers can be understood without this file.
+use Prim.Native.Nat.{ℕ, zero, suc, _+_, _≤_, _<_}
+use mathlib.Core.Path.{_≡_}
+use mathlib.Core.Bool.{Bool, true, false}
+use mathlib.Core.List.{List, []}
+use lib.ListN.{length, getD, drop}
+use lib.Seq.{slice}
+use Rattle.reader.specs.Log.{maxRecords}
+use Rattle.history.specs.History.{History, Returned, Precedes}
+use Rattle.history.specs.Linearization.{Makes, Fifo, placed, Linearization}
+use Rattle.replay.specs.declared.order.Progress.{Progress}
+use Rattle.replay.specs.declared.order.Step.{Step}
+use Rattle.replay.specs.declared.order.Step.the-variants.{Placed, Illegal}
+
+-- The answer of a test of P.
+abbrev pub Decides : Type 0 → Bool → Type 0
+Decides P true = P
+Decides P false = P → ⊥
+
+-- how many of the first marks are set
+unfoldable pub total : ℕ → List ℕ → ℕ
+total zero marks = 0
+total (suc n) marks = total n marks + getD marks n 0
+
+-- Nothing is marked.
+pub record Unmarked (marks : List ℕ) : Type 0 where
+  pub sized : length marks ≡ maxRecords
+  pub none : (o : ℕ) → getD marks o 0 ≡ 0
+
+-- the values that wait, front first
+abbrev pub waiting : Progress → List ℕ → List ℕ
+waiting p queue = slice (p .head) (p .tail) queue
+
+-- The marks are 0 or 1, and no more values came in than operations are marked.
+pub record Room (count : ℕ) (p : Progress) (marks queue : List ℕ) : Type 0 where
+  pub few : count ≤ maxRecords
+  pub marks-sized : length marks ≡ maxRecords
+  pub queue-sized : length queue ≡ maxRecords
+  pub bits : (o : ℕ) → getD marks o 0 ≤ 1
+  pub held : p .head ≤ p .tail
+  pub room : p .tail ≤ total count marks
+
+-- What an operation of this kind and value makes of the queue: nothing if it cannot be run there.
+abbrev pub Served : History → ℕ → Progress → List ℕ → List ℕ → Step → Type 0
+Served h o p queue queue' Illegal = (rest : List ℕ) → Makes h o (waiting p queue) rest → ⊥
+Served h o p queue queue' (Placed q) =
+    Makes h o (waiting p queue) (waiting q queue') × (q .latest ≡ p .latest) × (q .head ≤ q .tail) × (q .tail ≤ p .tail + 1)
+
+pub record Serves (kind value : ℕ) (p : Progress) (queue : List ℕ) (step : Step) (queue' : List ℕ) : Type 0 where
+  pub sized : length queue' ≡ maxRecords
+  pub served : (h : History) (o : ℕ) → h .kind o ≡ kind → h .value o ≡ value → Served h o p queue queue' step
+
+-- The first i operations of an order are placed.
+pub record Kept (h : History) (order : List ℕ) (i : ℕ) (p : Progress) (marks queue : List ℕ) : Type 0 where
+  pub has-room : Room (h .count) p marks queue
+  -- what a legal order asks of them
+  pub known : (j : ℕ) → j < i → placed order j < h .count
+  pub once : (j k : ℕ) → j < k → k < i → placed order j ≡ placed order k → ⊥
+  pub keeps : (j k : ℕ) → j < k → k < i → Precedes h (placed order k) (placed order j) → ⊥
+  -- just they are marked
+  pub marked : (o : ℕ) → getD marks o 0 ≡ 1 → (j : ℕ) × (j < i) × (placed order j ≡ o)
+  pub marks-all : (j : ℕ) → j < i → getD marks (placed order j) 0 ≡ 1
+  -- the latest call among them
+  pub above : (j : ℕ) → j < i → h .call (placed order j) ≤ p .latest
+  pub met : 0 < p .latest → (j : ℕ) × (j < i) × (h .call (placed order j) ≡ p .latest)
+  -- the order can be run exactly if the rest of it can be run from the queue
+  pub goes : Fifo h (drop i order) (waiting p queue) → Fifo h order []
+  pub comes : Fifo h order [] → Fifo h (drop i order) (waiting p queue)
+
+-- A step: the next operation of the order is placed, or the order is not legal.
+abbrev pub Goes : History → List ℕ → ℕ → List ℕ → List ℕ → Step → Type 0
+Goes h order i marks queue Illegal = Linearization h order → ⊥
+Goes h order i marks queue (Placed q) = Kept h order (i + 1) q marks queue
+
+pub record Stepped (h : History) (o : ℕ) (p : Progress) (marks queue : List ℕ) (step : Step) (marks' queue' : List ℕ) : Type 0 where
+  pub goes : (order : List ℕ) (i : ℕ) → i < length order → placed order i ≡ o → Kept h order i p marks queue → Goes h order i marks' queue' step
+
+-- All that a legal order asks, but for the operations that it omits; those that it lists are marked.
+pub record Sound (h : History) (order marks : List ℕ) : Type 0 where
+  pub known : (j : ℕ) → j < length order → placed order j < h .count
+  pub once : (j k : ℕ) → j < k → k < length order → placed order j ≡ placed order k → ⊥
+  pub keeps : (j k : ℕ) → j < k → k < length order → Precedes h (placed order k) (placed order j) → ⊥
+  pub marked : (o : ℕ) → getD marks o 0 ≡ 1 → (j : ℕ) × (j < length order) × (placed order j ≡ o)
+  pub marks-all : (j : ℕ) → j < length order → getD marks (placed order j) 0 ≡ 1
+  pub runs : Fifo h order []
+
+abbrev pub Tried : History → List ℕ → List ℕ → Bool → Type 0
+Tried h order marks true = Sound h order marks
+Tried h order marks false = Linearization h order → ⊥
+
+-- An operation is marked if it has returned; every one is.
+abbrev pub ReturnIsMarked : History → List ℕ → ℕ → Type 0
+ReturnIsMarked h marks o = Returned h o → getD marks o 0 ≡ 1
+
+abbrev pub AllMarked : History → List ℕ → Type 0
+AllMarked h marks = (o : ℕ) → o < h .count → ReturnIsMarked h marks o

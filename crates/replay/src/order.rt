@@ -1,0 +1,191 @@
+// Whether an order is legal for a history: its operations are placed one after the other, in time that is linear in the order and
+// the operations. What is legal is said in the history's specs/Linearization.antt, what the code keeps in specs/Trial.antt.
+ghost use mathlib.Core.Path.{_≡_};
+ghost use mathlib.Core.Bool.{true};
+ghost use mathlib.Core.Logic.{_⊎_};
+ghost use Prim.Native.Nat.{_≤_, _<_};
+ghost use lib.ListN.{length};
+ghost use Rattle.reader.specs.Log.{maxRecords};
+ghost use Rattle.history.specs.Linearization.{Linearization};
+ghost use Rattle.history.specs.Sheet.{listedOn};
+ghost use Rattle.history.specs.Table.{tabled};
+ghost use Rattle.replay.specs.Replay.{isOrderSheet};
+ghost use Rattle.replay.specs.Trial.{Decides, Unmarked, Room, Serves, Stepped, Tried, ReturnIsMarked, AllMarked};
+use crate::sheet::listed_on;
+use crate::sheet::operation_at;
+use history::operations::ADD;
+use history::operations::CALL;
+use history::operations::EMPTY_REMOVE;
+use history::operations::FIELDS;
+use history::operations::KIND;
+use history::operations::Operations;
+use history::operations::REMOVE;
+use history::operations::RETURN;
+use history::operations::VALUE;
+use reader::format::MAX_RECORDS;
+
+// How far an order has been run: the latest call among the operations placed, and where the queue's front and back are.
+pub struct Progress {
+    pub latest: u32,
+    pub head: usize,
+    pub tail: usize,
+}
+
+// What placing an operation comes to.
+pub enum Step {
+    Placed(Progress),
+    Illegal,
+}
+
+type Marks = [u8; MAX_RECORDS];
+
+type Queue = [u32; MAX_RECORDS];
+
+// Runs an operation of this kind and value on the queue.
+fn serve(kind: u32, value: u32, p: Progress, queue: &mut Queue) -> Step
+    requires { ⌜ (p .head ≤ p .tail) × (p .tail < maxRecords) × (length (now queue) ≡ maxRecords) ⌝ }
+    ensures { λ s. ⌜ Serves kind value p (now (queue .entry)) s (now (queue .exit)) ⌝ }
+{
+    let head = p.head;
+    let tail = p.tail;
+    match kind {
+        ADD => {
+            queue[tail] = value;
+            Step::Placed(Progress {
+                latest: p.latest,
+                head,
+                tail: tail + 1,
+            })
+        }
+        REMOVE => {
+            if head == tail {
+                return Step::Illegal;
+            }
+            let front = queue[head];
+            if front != value {
+                return Step::Illegal;
+            }
+            Step::Placed(Progress {
+                latest: p.latest,
+                head: head + 1,
+                tail,
+            })
+        }
+        EMPTY_REMOVE => {
+            if head != tail {
+                return Step::Illegal;
+            }
+            Step::Placed(p)
+        }
+        _ => Step::Illegal,
+    }
+}
+
+// The later of two positions.
+fn later(a: u32, b: u32) -> u32
+    ensures { λ r. ⌜ (a ≤ r) × (b ≤ r) × ((r ≡ a) ⊎ (r ≡ b)) ⌝ }
+{
+    if a < b { b } else { a }
+}
+
+// Places an operation behind those that are marked.
+fn place(
+    table: &Operations,
+    count: usize,
+    end: usize,
+    o: usize,
+    p: Progress,
+    marks: &mut Marks,
+    queue: &mut Queue,
+) -> Step
+    requires { ⌜ Room count p (now marks) (now queue) ⌝ }
+    ensures { λ s. ⌜ Stepped (tabled count end (now (table .entry))) o p (now (marks .entry)) (now (queue .entry)) s (now (marks .exit)) (now (queue .exit)) ⌝ }
+{
+    if count <= o {
+        return Step::Illegal;
+    }
+    if marks[o] == 1 {
+        return Step::Illegal;
+    }
+    let latest = p.latest;
+    let at = o * FIELDS;
+    if table[at + RETURN] < latest {
+        return Step::Illegal;
+    }
+    marks[o] = 1;
+    let q = Progress {
+        latest: later(latest, table[at + CALL]),
+        head: p.head,
+        tail: p.tail,
+    };
+    serve(table[at + KIND], table[at + VALUE], q, queue)
+}
+
+// Places the operations that a sheet lists, one after the other, and marks them.
+fn place_all(table: &Operations, count: usize, end: usize, sheet: &[u8], marks: &mut Marks) -> bool
+    requires { ⌜ (count ≤ maxRecords) × (isOrderSheet (now sheet) ≡ true) × Unmarked (now marks) ⌝ }
+    ensures { λ r. ⌜ Tried (tabled count end (now (table .entry))) (listedOn (now (sheet .entry))) (now (marks .exit)) r ⌝ }
+{
+    let mut queue = [0u32; MAX_RECORDS];
+    let mut p = Progress {
+        latest: 0,
+        head: 0,
+        tail: 0,
+    };
+    let k = listed_on(sheet);
+    let mut i = 0;
+    while i < k {
+        let o = operation_at(sheet, i);
+        match place(table, count, end, o, p, marks, &mut queue) {
+            Step::Illegal => {
+                return false;
+            }
+            Step::Placed(q) => {
+                p = q;
+            }
+        }
+        i += 1;
+    }
+    true
+}
+
+// Whether an operation is marked if it has returned; one that is pending may be left out.
+fn marked_if_returned(table: &Operations, count: usize, end: usize, o: usize, marks: &Marks) -> bool
+    requires { ⌜ (end ≤ maxRecords) × (o < maxRecords) ⌝ }
+    ensures { λ r. ⌜ Decides (ReturnIsMarked (tabled count end (now (table .entry))) (now (marks .entry)) o) r ⌝ }
+{
+    if end as u32 <= table[o * FIELDS + RETURN] {
+        return true;
+    }
+    if marks[o] != 1 {
+        return false;
+    }
+    true
+}
+
+// Whether every returned operation is marked.
+fn all_marked(table: &Operations, count: usize, end: usize, marks: &Marks) -> bool
+    requires { ⌜ (count ≤ maxRecords) × (end ≤ maxRecords) ⌝ }
+    ensures { λ r. ⌜ Decides (AllMarked (tabled count end (now (table .entry))) (now (marks .entry))) r ⌝ }
+{
+    let mut o = 0;
+    while o < count {
+        if !marked_if_returned(table, count, end, o, marks) {
+            return false;
+        }
+        o += 1;
+    }
+    true
+}
+
+// Whether the order that a sheet lists is legal for the history that the table holds.
+pub fn is_linearization(table: &Operations, count: usize, end: usize, sheet: &[u8]) -> bool
+    requires { ⌜ (count ≤ maxRecords) × (end ≤ maxRecords) × (isOrderSheet (now sheet) ≡ true) ⌝ }
+    ensures { λ r. ⌜ Decides (Linearization (tabled count end (now (table .entry))) (listedOn (now (sheet .entry)))) r ⌝ }
+{
+    let mut marks = [0u8; MAX_RECORDS];
+    if !place_all(table, count, end, sheet, &mut marks) {
+        return false;
+    }
+    all_marked(table, count, end, &marks)
+}

@@ -1,0 +1,115 @@
+//! Replay on the longest logs, the longest orders and the longest queues.
+
+use yauponroof_tests::build::{call_add, call_remove, log, return_add, return_value};
+use yauponroof_tests::compare::Replays;
+use yauponroof_tests::random::Random;
+use yauponroof_tests::reader::{Record, MAX_RECORDS};
+use yauponroof_tests::samples::{calls_then_returns, pending_adds};
+use yauponroof_tests::sheet::sheet;
+use yauponroof_tests::{replay, NO, YES};
+
+/// The most operations that an order of the judge can list: of three records, one calls an add and
+/// two are the remove of its value.
+const JUDGED: u16 = 682;
+
+fn call_order(count: usize) -> Vec<u16> {
+    (0..count as u16).collect()
+}
+
+/// Compares the order with two of its operations exchanged, many times; they may be the same.
+fn compare_exchanges(log: &[u8], order: &[u16]) -> Replays {
+    let mut random = Random::new(61);
+    let mut replays = Replays::new();
+    for _ in 0..300 {
+        let mut exchanged = order.to_vec();
+        exchanged.swap(random.below(order.len()), random.below(order.len()));
+        replays.compare(log, &sheet(&exchanged));
+    }
+    replays
+}
+
+#[test]
+fn pending_adds_that_fill_the_log_may_be_listed_in_any_order() {
+    let log = log(&pending_adds(MAX_RECORDS));
+    let mut random = Random::new(62);
+    let mut order = call_order(MAX_RECORDS);
+    let mut replays = Replays::new();
+    for listed in [MAX_RECORDS, 1023, 683, 682, 512, 256, 1, 0] {
+        random.shuffle(&mut order);
+        let answer = replays.compare(&log, &sheet(&order[..listed]));
+        assert_eq!(answer, YES, "{listed} listed");
+    }
+}
+
+#[test]
+fn one_of_the_most_operations_listed_twice() {
+    let log = log(&pending_adds(MAX_RECORDS));
+    let order = call_order(MAX_RECORDS);
+    for (one, other) in [(0, 1), (0, 1023), (1023, 0), (1022, 1023), (511, 512)] {
+        let mut in_place_of_another = order.clone();
+        in_place_of_another[other] = order[one];
+        assert_eq!(replay(&log, &sheet(&in_place_of_another)), NO);
+        let mut one_too_many = order.clone();
+        one_too_many.insert(other, order[one]);
+        assert_eq!(replay(&log, &sheet(&one_too_many)), NO);
+    }
+}
+
+#[test]
+fn operations_that_all_overlap() {
+    let log = log(&calls_then_returns(MAX_RECORDS));
+    let count = MAX_RECORDS as u16 / 2;
+    let adds = || (0..count).step_by(2);
+    let removes = || (1..count).step_by(2);
+    let adds_first: Vec<u16> = adds().chain(removes()).collect();
+    let removes_first: Vec<u16> = removes().chain(adds()).collect();
+    let last_pair_first: Vec<u16> = adds().rev().flat_map(|add| [add, add + 1]).collect();
+    assert_eq!(replay(&log, &sheet(&adds_first)), YES);
+    assert_eq!(replay(&log, &sheet(&removes_first)), NO);
+    assert_eq!(replay(&log, &sheet(&last_pair_first)), YES);
+    compare_exchanges(&log, &adds_first).assert_answered(0, 200);
+}
+
+/// Adds one after the other, then as many removes one after the other, all by one client.
+fn adds_then_removes(count: u32) -> Vec<Record> {
+    let adds = (0..count).flat_map(|value| [call_add(1, 1, value), return_add(1, 1)]);
+    let removes = (0..count).flat_map(|value| [call_remove(1, 1), return_value(1, 1, value)]);
+    adds.chain(removes).collect()
+}
+
+#[test]
+fn operations_none_of_which_overlap() {
+    let log = log(&adds_then_removes(256));
+    let order = call_order(MAX_RECORDS / 2);
+    assert_eq!(replay(&log, &sheet(&order)), YES);
+    assert_eq!(replay(&log, &sheet(&order[..511])), NO);
+    assert_eq!(replay(&log, &sheet(&order[1..])), NO);
+    compare_exchanges(&log, &order).assert_answered(0, 200);
+}
+
+/// Adds that never return, a client each, then removes one after the other that take their values,
+/// the last one first.
+fn pending_adds_removed(count: u16) -> Vec<Record> {
+    let adds = (0..count).map(|i| call_add(i, 1, u32::from(i)));
+    let removes = (0..count).rev().flat_map(|value| {
+        let client = count + value;
+        [
+            call_remove(client, 1),
+            return_value(client, 1, u32::from(value)),
+        ]
+    });
+    adds.chain(removes).collect()
+}
+
+#[test]
+fn the_longest_order_of_the_judge() {
+    let records = pending_adds_removed(JUDGED / 2);
+    assert_eq!(records.len(), MAX_RECORDS - 1);
+    let log = log(&records);
+    let as_removed: Vec<u16> = (0..JUDGED / 2).rev().chain(JUDGED / 2..JUDGED).collect();
+    assert_eq!(sheet(&as_removed).len(), 1368);
+    assert_eq!(replay(&log, &sheet(&as_removed)), YES);
+    assert_eq!(replay(&log, &sheet(&call_order(JUDGED.into()))), NO);
+    assert_eq!(replay(&log, &sheet(&as_removed[1..])), NO);
+    compare_exchanges(&log, &as_removed).assert_answered(0, 200);
+}

@@ -1,0 +1,43 @@
+//! Every list of operation numbers on every log of few records, held against both of the tests' own
+//! ways to find the legal orders.
+
+use yauponroof_tests::compare::Replays;
+use yauponroof_tests::enumerate::every_log;
+use yauponroof_tests::lists::{compare_every_arrangement, compare_every_list};
+use yauponroof_tests::reader::Record;
+
+#[test]
+fn every_list_on_every_log_of_up_to_five_records() {
+    let mut replays = Replays::new();
+    every_log(5, &mut |records| {
+        compare_every_list(records, &mut replays);
+    });
+    replays.assert_answered(2200, 740_000);
+}
+
+#[test]
+fn every_arrangement_on_every_log_of_six_records() {
+    let mut replays = Replays::new();
+    every_log(6, &mut |records| {
+        if records.len() == 6 {
+            compare_every_arrangement(records, &mut replays);
+        }
+    });
+    replays.assert_answered(19_000, 330_000);
+}
+
+/// The same records, all of one tick.
+fn at_one_tick(records: &[Record], tick: u32) -> Vec<Record> {
+    records.iter().map(|r| Record { tick, ..*r }).collect()
+}
+
+#[test]
+fn equal_ticks_change_nothing() {
+    let mut replays = Replays::new();
+    every_log(5, &mut |records| {
+        for tick in [0, u32::MAX] {
+            compare_every_arrangement(&at_one_tick(records, tick), &mut replays);
+        }
+    });
+    replays.assert_answered(4400, 32_000);
+}
