@@ -50,6 +50,7 @@ static const struct sample samples[] = {
     {"8-clients", 512, eight_clients},
     {"client-per-operation", 512, client_per_operation},
     {"calls-then-returns", 512, log_calls_then_returns},
+    {"calls-apart", 512, log_calls_then_returns_apart},
     {"pending-adds", 1024, pending_adds},
     {"pending-adds-listed", 1024, pending_adds_listed},
     {"empty", 0, empty},

@@ -81,8 +81,9 @@ extern "C" {
 #define YR_LOG_MAX 12291
 
 /*
- * The most bytes of a verdict sheet: 4, and 2 for each of 682 operations. Only an order that lists
- * adds without return whose values were never removed can be longer; yr_replay takes that as well.
+ * The most bytes of a verdict sheet: 4, and 2 for each of 682 operations. A legal order is
+ * longer only if it lists adds without return whose values were never removed; yr_replay takes that
+ * as well.
  */
 #define YR_SHEET_MAX 1368
 

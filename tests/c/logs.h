@@ -72,22 +72,37 @@ static inline void log_pending_adds(struct log *log, unsigned n)
         log_record(log, CALL_ADD, i, i);
 }
 
-/* 512 calls, alternately add and remove, then their 512 returns, a client each. In the order all
-   adds come before the removes of their values. */
-static inline void log_calls_then_returns(struct log *log, struct sheet *order)
+/* 512 calls, alternately add and remove, then their 512 returns, a client each: call i is by client
+   `step * (i / group) + i % group`. In the order all adds come before the removes of their values. */
+static inline void log_calls_then_returns_by(struct log *log, struct sheet *order, unsigned group,
+                                             unsigned step)
 {
     log_begin(log);
     for (unsigned i = 0; i < 512; i++)
-        log_record(log, i % 2 == 0 ? CALL_ADD : CALL_REMOVE, i, i);
+        log_record(log, i % 2 == 0 ? CALL_ADD : CALL_REMOVE, step * (i / group) + i % group, i);
     for (unsigned i = 0; i < 512; i++)
-        log_record(log, i % 2 == 0 ? RETURN_ADD : RETURN_VALUE, i, i - 1);
+        log_record(log, i % 2 == 0 ? RETURN_ADD : RETURN_VALUE, step * (i / group) + i % group,
+                   i - 1);
     sheet_begin(order);
     for (unsigned i = 0; i < 512; i++)
         sheet_list(order, i < 256 ? 2 * i : 2 * (i - 256) + 1);
 }
 
-/* Who makes the calls of a simulated run. */
-enum clients { CLIENTS_REUSED, CLIENT_PER_OPERATION };
+/* The clients are 0 to 511. */
+static inline void log_calls_then_returns(struct log *log, struct sheet *order)
+{
+    log_calls_then_returns_by(log, order, 512, 0);
+}
+
+/* The clients have 8 remainders by 1,024, 64 clients each. */
+static inline void log_calls_then_returns_apart(struct log *log, struct sheet *order)
+{
+    log_calls_then_returns_by(log, order, 8, 1024);
+}
+
+/* Who makes the calls of a simulated run: clients numbered from 0, the same 1,024 apart, or one for
+   each operation. */
+enum clients { CLIENTS_REUSED, CLIENTS_APART, CLIENT_PER_OPERATION };
 
 #define WORKERS 8
 
@@ -159,7 +174,7 @@ static inline void log_simulate(struct log *log, struct sheet *order, enum clien
     struct worker workers[WORKERS];
     memset(workers, 0, sizeof workers);
     for (unsigned i = 0; i < WORKERS; i++)
-        workers[i].client = i;
+        workers[i].client = clients == CLIENTS_APART ? i * 1024 : i;
     log_begin(log);
     sheet_begin(order);
     while (log->records < YR_MAX_RECORDS) {

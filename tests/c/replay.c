@@ -134,10 +134,14 @@ static void check_largest(void)
 {
     log_simulate(&run, &order, CLIENTS_REUSED);
     check_large("a run of 8 clients");
+    log_simulate(&run, &order, CLIENTS_APART);
+    check_large("a run of 8 clients, 1,024 apart");
     log_simulate(&run, &order, CLIENT_PER_OPERATION);
     check_large("a run with a client for each operation");
     log_calls_then_returns(&run, &order);
     check_large("512 calls, then their returns");
+    log_calls_then_returns_apart(&run, &order);
+    check_large("512 calls, then their returns, by clients 1,024 apart");
 
     log_pending_adds(&run, YR_MAX_RECORDS);
     sheet_begin(&order);

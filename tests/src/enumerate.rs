@@ -5,7 +5,8 @@
 use crate::random::Random;
 use crate::reader::{Event, Record, Removed};
 
-/// Calls `visit` with every readable log of at most `most` records.
+/// Calls `visit` with every readable log of at most `most` records, up to the naming of clients and
+/// values, and with rising ticks only.
 pub fn every_log(most: usize, visit: &mut impl FnMut(&[Record])) {
     visit_from(&Partial::default(), most, visit);
 }

@@ -2,6 +2,7 @@
 //! orders of their own, builders of logs and sheets, and a count of the answers seen.
 
 pub mod build;
+pub mod clients;
 pub mod compare;
 pub mod enumerate;
 pub mod fenced;

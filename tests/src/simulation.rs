@@ -4,6 +4,7 @@
 use std::collections::{HashMap, VecDeque};
 
 use crate::build::{call_add, call_remove, return_add, return_empty, return_value};
+use crate::clients::clients_apart;
 use crate::random::Random;
 use crate::reader::{Event, Record, Removed};
 
@@ -56,6 +57,12 @@ pub fn runs_of_all_sizes() -> Vec<Run> {
     runs
 }
 
+/// The runs of all sizes with their clients numbered 1,024 apart.
+pub fn runs_with_clients_apart() -> Vec<Run> {
+    let runs = runs_of_all_sizes().into_iter();
+    runs.map(|run| run.with_clients_apart(1024)).collect()
+}
+
 /// What a simulation leaves.
 #[derive(Clone, Default)]
 pub struct Run {
@@ -83,6 +90,14 @@ impl Run {
         }
         Run {
             records,
+            order: self.order.clone(),
+        }
+    }
+
+    /// The run with its clients numbered that far apart, as far as 16 bits allow.
+    pub fn with_clients_apart(&self, distance: u16) -> Run {
+        Run {
+            records: clients_apart(&self.records, distance),
             order: self.order.clone(),
         }
     }

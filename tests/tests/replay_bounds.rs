@@ -87,11 +87,10 @@ fn operations_none_of_which_overlap() {
     compare_exchanges(&log, &order).assert_answered(0, 200);
 }
 
-/// Adds that never return, a client each, then removes one after the other that take their values,
-/// the last one first.
-fn pending_adds_removed(count: u16) -> Vec<Record> {
+/// Adds that never return, a client each, then removes one after the other that take these values.
+fn pending_adds_removed(count: u16, taken: impl Iterator<Item = u16>) -> Vec<Record> {
     let adds = (0..count).map(|i| call_add(i, 1, u32::from(i)));
-    let removes = (0..count).rev().flat_map(|value| {
+    let removes = taken.flat_map(|value| {
         let client = count + value;
         [
             call_remove(client, 1),
@@ -103,7 +102,7 @@ fn pending_adds_removed(count: u16) -> Vec<Record> {
 
 #[test]
 fn the_longest_order_of_the_judge() {
-    let records = pending_adds_removed(JUDGED / 2);
+    let records = pending_adds_removed(JUDGED / 2, (0..JUDGED / 2).rev());
     assert_eq!(records.len(), MAX_RECORDS - 1);
     let log = log(&records);
     let as_removed: Vec<u16> = (0..JUDGED / 2).rev().chain(JUDGED / 2..JUDGED).collect();
@@ -112,4 +111,66 @@ fn the_longest_order_of_the_judge() {
     assert_eq!(replay(&log, &sheet(&call_order(JUDGED.into()))), NO);
     assert_eq!(replay(&log, &sheet(&as_removed[1..])), NO);
     compare_exchanges(&log, &as_removed).assert_answered(0, 200);
+}
+
+#[test]
+fn the_longest_queue() {
+    let records = pending_adds_removed(1022, 0..1);
+    assert_eq!(records.len(), MAX_RECORDS);
+    let log = log(&records);
+    let order = call_order(1023);
+    assert_eq!(replay(&log, &sheet(&order)), YES);
+    for other in 1..1022 {
+        let mut another_first = order.clone();
+        another_first.swap(0, other);
+        assert_eq!(replay(&log, &sheet(&another_first)), NO, "{other} first");
+    }
+    compare_exchanges(&log, &order).assert_answered(280, 0);
+}
+
+/// Adds that fill the log together with the removes of the first few.
+const ADDS: u16 = 1000;
+const REMOVES: u16 = 12;
+
+#[test]
+fn the_first_few_of_a_long_queue_are_removed() {
+    let records = pending_adds_removed(ADDS, 0..REMOVES);
+    assert_eq!(records.len(), MAX_RECORDS);
+    let log = log(&records);
+    let adds_first = call_order((ADDS + REMOVES).into());
+    // A remove comes behind each 83 adds, and so meets a longer queue than the one before.
+    let remove_behind = |add| ((add + 1) % 83 == 0).then_some(ADDS + add / 83);
+    let interleaved: Vec<u16> = (0..ADDS)
+        .flat_map(|add| [add].into_iter().chain(remove_behind(add)))
+        .collect();
+    for order in [adds_first, interleaved] {
+        assert_eq!(order.len(), usize::from(ADDS + REMOVES));
+        assert_eq!(replay(&log, &sheet(&order)), YES);
+        compare_exchanges(&log, &order).assert_answered(250, 5);
+    }
+}
+
+/// Of `count` adds one alone returns. Any order may leave out the others, and none that one.
+fn assert_not_left_out(returned: usize, count: usize) {
+    let number = returned as u16;
+    let mut records = pending_adds(count);
+    records.push(return_add(number, count as u32));
+    let log = log(&records);
+    let mut order = call_order(count);
+    let answer = |order: &[u16]| replay(&log, &sheet(order));
+    assert_eq!(answer(&order), YES, "all, {returned} of {count} returns");
+    order.remove(returned);
+    assert_eq!(answer(&order), NO, "{returned} of {count} is left out");
+    assert_eq!(answer(&[number]), YES, "{returned} of {count} alone");
+    assert_eq!(answer(&[]), NO, "none, {returned} of {count} returns");
+}
+
+#[test]
+fn the_one_add_that_returns_is_left_out() {
+    for count in [1, 2, 257, 512, 513, 600, 1010] {
+        assert_not_left_out(count - 1, count);
+    }
+    for returned in 0..MAX_RECORDS - 1 {
+        assert_not_left_out(returned, MAX_RECORDS - 1);
+    }
 }

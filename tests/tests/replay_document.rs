@@ -12,7 +12,8 @@ use yauponroof_tests::samples::{PROGRAM_EXAMPLE, RUNS};
 use yauponroof_tests::sheet::sheet;
 use yauponroof_tests::{replay, NO, YES};
 
-/// All orders that replay says yes to, lowest first; every list is tried.
+/// All orders that replay says yes to, lowest first; where the log has m operations, every list of
+/// at most m + 1 numbers from 0 to m is tried.
 fn legal_orders(records: &[Record]) -> Vec<Vec<u16>> {
     let orders = compare_every_list(records, &mut Replays::new());
     orders.into_iter().collect()

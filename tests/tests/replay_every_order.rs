@@ -1,6 +1,11 @@
-//! Every list of operation numbers on every log of few records, held against both of the tests' own
-//! ways to find the legal orders.
+//! Lists of operation numbers on all logs of few records, held against both of the tests' own ways
+//! to find the legal orders. The logs are all readable ones up to the naming of clients and values:
+//! these are numbered from 0 in the order in which they first appear, and the ticks rise by one. Two
+//! tests take the same logs with equal ticks and with other client numbers. Where a log has m
+//! operations, the lists are those of at most m + 1 numbers from 0 to m, or the arrangements: those
+//! of numbers from 0 to m - 1 without repeats.
 
+use yauponroof_tests::clients::{clients_apart, DISTANCES};
 use yauponroof_tests::compare::Replays;
 use yauponroof_tests::enumerate::every_log;
 use yauponroof_tests::lists::{compare_every_arrangement, compare_every_list};
@@ -40,4 +45,15 @@ fn equal_ticks_change_nothing() {
         }
     });
     replays.assert_answered(4400, 32_000);
+}
+
+#[test]
+fn clients_that_share_a_remainder_change_nothing() {
+    let mut replays = Replays::new();
+    every_log(5, &mut |records| {
+        for distance in DISTANCES {
+            compare_every_arrangement(&clients_apart(records, distance), &mut replays);
+        }
+    });
+    replays.assert_answered(6600, 48_000);
 }

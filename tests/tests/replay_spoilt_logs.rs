@@ -6,7 +6,7 @@ use yauponroof_tests::build::log;
 use yauponroof_tests::random::Random;
 use yauponroof_tests::reader::{Event, Record, Removed};
 use yauponroof_tests::sheet::sheet;
-use yauponroof_tests::simulation::{runs_of_all_sizes, Run};
+use yauponroof_tests::simulation::{runs_of_all_sizes, runs_with_clients_apart, Run};
 use yauponroof_tests::spoil::{compare_spoilt, Way};
 
 /// The place of a record with such an event, if there is one.
@@ -100,9 +100,18 @@ const WAYS: [Way<Run, Vec<Record>>; 5] = [
     Way::new("an outcome changed", an_outcome_changed, 40, 700),
 ];
 
-#[test]
-fn logs_changed_in_one_place() {
-    compare_spoilt(&runs_of_all_sizes(), &WAYS, |run, records| {
+fn compare_changed(runs: &[Run]) {
+    compare_spoilt(runs, &WAYS, |run, records| {
         (log(records), sheet(&run.order))
     });
+}
+
+#[test]
+fn logs_changed_in_one_place() {
+    compare_changed(&runs_of_all_sizes());
+}
+
+#[test]
+fn logs_changed_in_one_place_with_clients_apart() {
+    compare_changed(&runs_with_clients_apart());
 }

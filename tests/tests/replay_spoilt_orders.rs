@@ -8,7 +8,7 @@ use yauponroof_tests::history::{operations, Action, Operation};
 use yauponroof_tests::random::Random;
 use yauponroof_tests::reader::Removed;
 use yauponroof_tests::sheet::sheet;
-use yauponroof_tests::simulation::{runs_of_all_sizes, Run};
+use yauponroof_tests::simulation::{runs_of_all_sizes, runs_with_clients_apart, Run};
 use yauponroof_tests::spoil::{compare_spoilt, Way};
 use yauponroof_tests::YES;
 
@@ -174,8 +174,8 @@ const WAYS: [Way<Sample, Vec<u16>>; 11] = [
 ];
 
 /// The runs with the order in which all operations took effect, and with the judge's order.
-fn samples() -> Vec<Sample> {
-    let mut samples: Vec<Sample> = runs_of_all_sizes().iter().map(Sample::new).collect();
+fn samples(runs: &[Run]) -> Vec<Sample> {
+    let mut samples: Vec<Sample> = runs.iter().map(Sample::new).collect();
     let judged: Vec<Sample> = samples.iter().map(Sample::as_judged).collect();
     samples.extend(judged);
     samples
@@ -184,16 +184,27 @@ fn samples() -> Vec<Sample> {
 #[test]
 fn the_order_in_which_operations_took_effect_is_legal() {
     let mut replays = Replays::new();
-    for sample in samples() {
-        let answer = replays.compare(&sample.log, &sheet(&sample.order));
-        assert_eq!(answer, YES);
+    for runs in [runs_of_all_sizes(), runs_with_clients_apart()] {
+        for sample in samples(&runs) {
+            let answer = replays.compare(&sample.log, &sheet(&sample.order));
+            assert_eq!(answer, YES);
+        }
     }
-    replays.assert_answered(240, 0);
+    replays.assert_answered(480, 0);
+}
+
+fn compare_spoilt_orders(runs: &[Run]) {
+    compare_spoilt(&samples(runs), &WAYS, |sample, order| {
+        (sample.log.clone(), sheet(order))
+    });
 }
 
 #[test]
 fn orders_spoilt_in_one_place() {
-    compare_spoilt(&samples(), &WAYS, |sample, order| {
-        (sample.log.clone(), sheet(order))
-    });
+    compare_spoilt_orders(&runs_of_all_sizes());
+}
+
+#[test]
+fn orders_spoilt_in_one_place_with_clients_apart() {
+    compare_spoilt_orders(&runs_with_clients_apart());
 }

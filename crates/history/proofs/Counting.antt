@@ -1,7 +1,7 @@
 -- A legal order lists no more operations than there are: a list of different numbers below n has at most n of them.
 use Prim.Native.Nat.{ℕ, zero, suc, _≤_, _<_}
 use native.Mathlib.Omega.{arith}
-use native.Mathlib.Decide.{decLt}
+use native.Mathlib.Decide.{decLt, ℕ-discrete}
 use mathlib.Core.Path.{_≡_, sym, _∙_}
 use mathlib.Core.Logic.{_⊎_, inl, inr}
 use mathlib.Core.List.{List}
@@ -9,7 +9,7 @@ use lib.ListN.{length}
 use lib.Dec.{ltb}
 use borrow.Author.Tests.{lt-ltb, le-ltb}
 use Rattle.reader.specs.Choice.{if_then_else_}
-use Rattle.reader.proofs.Search.{Lowest, None, lowest, decEq}
+use Rattle.reader.proofs.Search.{Lowest, None, lowest}
 use Rattle.history.specs.History.{History}
 use Rattle.history.specs.Linearization.{placed, Linearization}
 
@@ -52,7 +52,7 @@ skip-below i j k l = go (skip-is i j)
 different : (f : ℕ → ℕ) (k n : ℕ) → ((i : ℕ) → i < k → f i < n) → ((i j : ℕ) → i < j → j < k → f i ≡ f j → ⊥) → k ≤ n
 different f zero n small apart = omega arith
 different f (suc k) zero small apart = absurd (omega (arith, small 0 (omega arith)))
-different f (suc k) (suc n) small apart = go (lowest (λ i. f i ≡ n) (λ i. decEq (f i) n) (suc k)) (different f (suc k) n) (λ i. different (λ j. f (skip i j)) k n)
+different f (suc k) (suc n) small apart = go (lowest (λ i. f i ≡ n) (λ i. ℕ-discrete (f i) n) (suc k)) (different f (suc k) n) (λ i. different (λ j. f (skip i j)) k n)
   where
     alone : (i j : ℕ) → i < suc k → j < suc k → f i ≡ f j → Dec (i < j) → Dec (j < i) → i ≡ j
     alone i j a b e (yes l) d = absurd (apart i j l b e)

@@ -2,24 +2,22 @@
 use Prim.Native.Nat.{ℕ, zero, suc, _<_}
 use native.Mathlib.Omega.{arith}
 use native.Mathlib.Decide.{ℕ-discrete, decLt}
-use mathlib.Core.Path.{_≡_, refl}
+use mathlib.Core.Path.{_≡_}
 use mathlib.Core.Logic.{Dec·and, Dec·not}
 use mathlib.Core.List.{List, [], _∷_, _++_}
 use lib.ListN.{length}
 use Rattle.history.specs.History.{History, add, remove, emptyRemove}
 use Rattle.history.specs.Linearization.{Makes, puts, takes, meets, Fifo, done, then, placed, Listed, Linearization}
+use Rattle.history.proofs.Basics.{up-to}
+use Rattle.history.proofs.Queues.{makes-one, fifo-first}
 
 -- a statement on all numbers below a bound is decided by deciding it for each
 unfoldable pub all-below? : {P : ℕ → Type 0} → ((i : ℕ) → Dec (P i)) → (n : ℕ) → Dec ((i : ℕ) → i < n → P i)
 all-below? d zero = yes (λ i h. absurd (omega arith))
 all-below? {P} d (suc n) = go (all-below? d n) (d n)
   where
-    one-more : ((i : ℕ) → i < n → P i) → P n → (i : ℕ) → i < suc n → Dec (i < n) → P i
-    one-more all p i h (yes l) = all i l
-    one-more all p i h (no l) = let e : i ≡ n = omega arith in rw e p
-
     go : Dec ((i : ℕ) → i < n → P i) → Dec (P n) → Dec ((i : ℕ) → i < suc n → P i)
-    go (yes all) (yes p) = yes (λ i h. one-more all p i h (decLt i n))
+    go (yes all) (yes p) = yes (λ i h. up-to all p i (omega arith))
     go (yes all) (no q) = no (λ more. q (more n (omega arith)))
     go (no q) e = no (λ more. q (λ i h. more i (omega arith)))
 
@@ -70,20 +68,6 @@ makes? h o (v ∷ queue) = go (ℕ-discrete (h .kind o) add) (Dec·and (ℕ-disc
     go (yes a) d = yes (v ∷ queue ++ (h .value o ∷ []), puts a)
     go (no n) (yes t) = yes (queue, takes (t .0) (t .1))
     go (no n) (no m) = no (λ made. neither n m (made .1))
-
--- it makes only one thing of it
-pub makes-one : {h : History} {o : ℕ} {queue left right : List ℕ} → Makes h o queue left → Makes h o queue right → left ≡ right
-makes-one (puts a) (puts b) = refl
-makes-one (puts a) (takes r e) = absurd (omega arith)
-makes-one (puts a) (meets e) = absurd (omega arith)
-makes-one (takes r e) (puts a) = absurd (omega arith)
-makes-one (takes r e) (takes r' e') = refl
-makes-one (meets e) (puts a) = absurd (omega arith)
-makes-one (meets e) (meets e') = refl
-
--- a run begins with what its first operation makes of the queue
-pub fifo-first : {h : History} {o : ℕ} {order queue : List ℕ} → Fifo h (o ∷ order) queue → (queue' : List ℕ) × Makes h o queue queue' × Fifo h order queue'
-fifo-first (then {queue' = queue'} made rest) = (queue', made, rest)
 
 -- whether operations can be run from a queue on
 unfoldable pub fifo? : (h : History) (order queue : List ℕ) → Dec (Fifo h order queue)

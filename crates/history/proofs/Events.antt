@@ -1,5 +1,5 @@
 -- Laws of events: which are calls, and what they ask for and leave pending.
-use Prim.Native.Nat.{_-_, _≤_}
+use Prim.Native.Nat.{_≤_}
 use native.Mathlib.Omega.{arith}
 use mathlib.Core.Path.{_≡_, refl}
 use Rattle.reader.specs.Log.{isCall}

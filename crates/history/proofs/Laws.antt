@@ -67,14 +67,14 @@ module _ {log : List ℕ} {records : List Record} (readable : ReadableLog log re
   spans o h = go (decLt (returnOf o) (length records))
     where
       go : Dec (returnOf o < length records) → historyOf records .call o < historyOf records .ret o
-      go (yes l) = rw (returned-at o l) (position-next records (callOf o) (returnOf o) (return-is-next records (callOf o) l))
-      go (no l) = rw (never-returned o (omega arith)) (position-within records (callOf o) (call-of records o h .below))
+      go (yes l) = rw (returned-at o l) (position-next (readable .partial) (callOf o) (returnOf o) (return-is-next records (callOf o) l))
+      go (no l) = rw (never-returned o (omega arith)) (position-within (readable .partial) (callOf o) (call-of records o h .below))
 
   ends : (o : ℕ) → historyOf records .ret o ≤ length records
   ends o = go (decLt (returnOf o) (length records))
     where
       go : Dec (returnOf o < length records) → historyOf records .ret o ≤ length records
-      go (yes l) = rw (returned-at o l) (omega (arith, position-within records (returnOf o) l))
+      go (yes l) = rw (returned-at o l) (omega (arith, position-within (readable .partial) (returnOf o) l))
       go (no l) = rw (never-returned o (omega arith)) (omega arith)
 
   returned : (o : ℕ) → o < operations records → (historyOf records .kind o ≡ add → ⊥) → Returned (historyOf records) o
@@ -82,7 +82,7 @@ module _ {log : List ℕ} {records : List Record} (readable : ReadableLog log re
     where
       go : Shape o → Returned (historyOf records) o
       go (adds v e) = absurd (n (rw e refl))
-      go (removes x e l r) = rw (returned-at o l) (position-within records (returnOf o) l)
+      go (removes x e l r) = rw (returned-at o l) (position-within (readable .partial) (returnOf o) l)
 
   -- a return is no call
   other : (o p : ℕ) → o < operations records → p < operations records → returnOf o < length records → returnOf o ≡ callOf p → ⊥
@@ -96,8 +96,8 @@ module _ {log : List ℕ} {records : List Record} (readable : ReadableLog log re
   apart o p h k e = go (decLt (returnOf o) (length records))
     where
       go : Dec (returnOf o < length records) → ⊥
-      go (yes l) = other o p h k l (position-apart records (returnOf o) (callOf p) (sym (returned-at o l) ∙ e))
-      go (no l) = omega (arith, never-returned o (omega arith), position-within records (callOf p) (call-of records p k .below))
+      go (yes l) = other o p h k l (position-apart (readable .partial) (returnOf o) (callOf p) l (call-of records p k .below) (sym (returned-at o l) ∙ e))
+      go (no l) = omega (arith, never-returned o (omega arith), position-within (readable .partial) (callOf p) (call-of records p k .below))
 
   -- one value, one call, one operation
   add-call : (o : ℕ) → o < operations records → historyOf records .kind o ≡ add → recordOf records (callOf o) .event ≡ CallAdd (historyOf records .value o)
@@ -133,6 +133,6 @@ history-lawful {records = records} readable = record {
   ends = λ o h. ends readable o;
   returned = returned readable;
   apart = apart readable;
-  numbered = λ o p l h. position-calls records (callIndex records o) (callIndex records p) (calls-rise records o p l h) (call-of records p h .below) (call-of records o (omega arith) .is-call) (call-of records p h .is-call);
+  numbered = λ o p l h. position-calls (readable .partial) (callIndex records o) (callIndex records p) (calls-rise records o p l h) (call-of records p h .below) (call-of records o (omega arith) .is-call) (call-of records p h .is-call);
   once = once readable;
 }

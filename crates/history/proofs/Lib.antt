@@ -1,13 +1,16 @@
 pub mod Agreeing
+pub mod Basics
 pub mod Counting
 pub mod Deciding
 pub mod Entries
 pub mod Events
 pub mod Filling
 pub mod Laws
+pub mod Linking
 pub mod Noting
 pub mod Numbering
 pub mod Positions
+pub mod Queues
 pub mod Reaching
 pub mod Rows
 pub mod Searching

@@ -92,15 +92,6 @@ pub calls-rise : (records : List Record) (o p : ℕ) → o < p → p < operation
 calls-rise records o p l h = called-before records (callIndex records p) o (omega (arith, call-of records p h .rank))
 
 -- `firstOf` finds the first record of a client
-first-below : (client : ℕ) (records : List Record) → firstOf client records ≤ length records
-unfolding firstOf
-first-below client [] = omega arith
-first-below client (r ∷ records) = go (eqb (r .client) client) (first-below client records)
-  where
-    go : (b : Bool) → firstOf client records ≤ length records → (if b then 0 else suc (firstOf client records)) ≤ suc (length records)
-    go true ih = omega arith
-    go false ih = omega arith
-
 first-is : (client : ℕ) (records : List Record) → firstOf client records < length records → recordOf records (firstOf client records) .client ≡ client
 unfolding firstOf
 first-is client [] h = absurd (omega arith)
@@ -129,12 +120,9 @@ first-none client (r ∷ records) (suc k) h e = go (eqb (r .client) client) h (f
 behind : (records : List Record) (i k : ℕ) → recordOf (drop (i + 1) records) k ≡ recordOf records (i + 1 + k)
 behind records i k = getD-drop (i + 1) records k (record { client = 0; tick = 0; event = CallRemove })
 
--- a return stands behind its call, and at the end if there is none
+-- a return stands behind its call
 pub return-behind : (records : List Record) (i : ℕ) → i < returnIndex records i
 return-behind records i = omega arith
-
-pub return-within : (records : List Record) (i : ℕ) → i < length records → returnIndex records i ≤ length records
-return-within records i h = omega (arith, first-below (recordOf records i .client) (drop (i + 1) records), length-drop (i + 1) records)
 
 -- no record of its client stands between
 none-between : (records : List Record) (i k : ℕ) → i < k → k < returnIndex records i → recordOf records k .client ≡ recordOf records i .client → ⊥

@@ -1,9 +1,9 @@
 -- The loop that fills the table, and what an answer of the reader says of the log.
-use Prim.Native.Nat.{ℕ, zero, suc, _+_, _-_, _≤_, _<_}
+use Prim.Native.Nat.{ℕ, _+_, _≤_, _<_}
 use native.Mathlib.Omega.{arith}
 use mathlib.Core.Path.{_≡_, refl, sym, _∙_}
 use mathlib.Core.List.{List}
-use lib.ListN.{length, getD, take, replicate}
+use lib.ListN.{length, take, replicate}
 use lib.Seq.{length-take-le}
 use Rattle.reader.specs.Record.{decodeAt}
 use Rattle.reader.specs.Log.{headerLength, maxRecords, readLog, checked}
@@ -18,39 +18,33 @@ use Rattle.history.specs.Table.{tableLength, Filled, Room, Noted, Tabula
 use Rattle.history.proofs.Filling.{filled-none, filled-all}
 
 -- The loop of `fill`: it has come to record i, which stands at this offset, and the tables hold the records before it.
-pub record Reached (log : List ℕ) (end : ℕ) (clients recent table : List ℕ) (at count i : ℕ) : Type 0 where
+pub record Reached (log : List ℕ) (end : ℕ) (old callers recent table : List ℕ) (at count i : ℕ) : Type 0 where
   pub whole : Whole log end
   pub within : i ≤ end
   pub stands : at ≡ offsetOf (whole .records) i
-  pub filled : Filled (whole .records) i count clients recent table
+  pub filled : Filled (whole .records) old i count callers recent table
 
 readable : {log : List ℕ} {end : ℕ} (whole : Whole log end) → ReadableLog log (whole .records)
 readable {log} whole = readable-log log (whole .records) (whole .reads)
 
--- an array of zeros
-pub zeros : (n i : ℕ) → _≡_ {A = ℕ} (getD (replicate n 0) i 0) 0
-zeros zero i = refl
-zeros (suc n) zero = refl
-zeros (suc n) (suc i) = zeros n i
-
-pub reached-start : {log : List ℕ} {end : ℕ} → Whole log end → (clients recent table : List ℕ) → length clients ≡ maxRecords → length recent ≡ maxRecords → ((slot : ℕ) → getD recent slot 0 ≡ 0) → length table ≡ tableLength
-    → Reached log end clients recent table headerLength 0 0
+pub reached-start : {log : List ℕ} {end : ℕ} → Whole log end → (table : List ℕ) → length table ≡ tableLength
+    → Reached log end table (replicate maxRecords 0) (replicate maxRecords 0) table headerLength 0 0
 unfolding sizes
-reached-start whole clients recent table c r z t = record { whole = whole; within = omega arith; stands = refl; filled = filled-none (whole .records) clients recent table c r z t }
+reached-start whole table t = record { whole = whole; within = omega arith; stands = refl; filled = filled-none (whole .records) table t }
 
 -- there is a record
-reached-record : {log : List ℕ} {end : ℕ} {clients recent table : List ℕ} {at count i : ℕ} → (reached : Reached log end clients recent table at count i) → i < end
+reached-record : {log : List ℕ} {end : ℕ} {old callers recent table : List ℕ} {at count i : ℕ} → (reached : Reached log end old callers recent table at count i) → i < end
     → decodeAt log at ≡ Found (recordOf (reached .whole .records) i) (offsetOf (reached .whole .records) (i + 1))
 reached-record {i = i} reached l = rw (reached .stands) (readable (reached .whole) .partial .stands i (omega (arith, reached .whole .counted)))
 
-pub reached-found : {log : List ℕ} {end : ℕ} {clients recent table : List ℕ} {at count i number : ℕ} {d : Decoded} → Reached log end clients recent table at count i → i < end
+pub reached-found : {log : List ℕ} {end : ℕ} {old callers recent table : List ℕ} {at count i number : ℕ} {d : Decoded} → Reached log end old callers recent table at count i → i < end
     → d ≡ decodeAt log at → d ≡ Malformed number → ⊥
 reached-found reached l e m =
     let found = reached-record reached l in
     let z : _≡_ {A = ℕ} 0 1 = cc in omega arith
 
 -- and room for what it says
-pub reached-room : {log : List ℕ} {end : ℕ} {clients recent table : List ℕ} {at count i : ℕ} → Reached log end clients recent table at count i → i < end → Room i count end clients recent table
+pub reached-room : {log : List ℕ} {end : ℕ} {old callers recent table : List ℕ} {at count i : ℕ} → Reached log end old callers recent table at count i → i < end → Room i count end callers recent table
 reached-room {end = end} {recent = recent} {count = count} {i = i} reached l =
     let records = reached .whole .records in
     let small : end ≤ maxRecords = omega (arith, readable (reached .whole) .partial .few, reached .whole .counted) in
@@ -59,15 +53,18 @@ reached-room {end = end} {recent = recent} {count = count} {i = i} reached l =
       index-small = omega arith;
       count-small = omega arith;
       end-small = small;
-      recent-small = λ slot. omega (arith, few, small, reached .filled .recent-small slot);
-      clients-sized = reached .filled .clients-sized;
+      leads-down = record {
+        slots = λ slot. omega (arith, few, small, reached .filled .linked .tops slot .within);
+        links = reached .filled .link-small;
+      };
+      callers-sized = reached .filled .callers-sized;
       recent-sized = reached .filled .recent-sized;
       table-sized = reached .filled .table-sized;
     }
 
-pub reached-next : {log : List ℕ} {end : ℕ} {clients recent table clients' recent' table' : List ℕ} {at count i next count' : ℕ} {r : Record} {d : Decoded} → Reached log end clients recent table at count i → i < end
-    → d ≡ decodeAt log at → d ≡ Found r next → Noted r i count end clients recent table count' clients' recent' table' → Reached log end clients' recent' table' next count' (i + 1)
-reached-next {log} {i = i} {next = next} {r = r} reached l e f noted =
+pub reached-next : {log : List ℕ} {end : ℕ} {old callers recent table callers' recent' table' : List ℕ} {at count i next count' : ℕ} {r : Record} {d : Decoded} → Reached log end old callers recent table at count i → i < end
+    → d ≡ decodeAt log at → d ≡ Found r next → Noted r i count end callers recent table count' callers' recent' table' → Reached log end old callers' recent' table' next count' (i + 1)
+reached-next {log} {old = old} {i = i} {next = next} {r = r} reached l e f noted =
     let records = reached .whole .records in
     let found = reached-record reached l in
     let same : recordOf records i ≡ r = cc in
@@ -76,13 +73,13 @@ reached-next {log} {i = i} {next = next} {r = r} reached l e f noted =
       whole = reached .whole;
       within = omega arith;
       stands = behind;
-      filled = noted .kept log records (readable (reached .whole)) (reached .whole .counted) l same (reached .filled);
+      filled = noted .kept log records old (readable (reached .whole)) (reached .whole .counted) l same (reached .filled);
     }
 
-pub reached-end : {log : List ℕ} {end : ℕ} {clients recent table : List ℕ} {at count i : ℕ} → Reached log end clients recent table at count i → end ≤ i → (before : List ℕ) → Tabulated (readLog log) before table
-reached-end {log} {i = i} reached l before =
+pub reached-end : {log : List ℕ} {end : ℕ} {old callers recent table : List ℕ} {at count i : ℕ} → Reached log end old callers recent table at count i → end ≤ i → Tabulated (readLog log) old table
+reached-end {log} {i = i} reached l =
     let last : i ≡ length (reached .whole .records) = omega (arith, reached .within, reached .whole .counted) in
-    rw (reached .whole .reads) (reached .filled .table-sized, filled-all (readable (reached .whole)) (rw last at (reached .filled)))
+    rw (reached .whole .reads) (filled-all (readable (reached .whole)) (rw last at (reached .filled)))
 
 -- what the answer of a check says of the log, and of the table that is then left alone
 pub whole-log : {log : List ℕ} {answer : Checked} {n m : ℕ} → answer ≡ checked (readLog log) → answer ≡ Readable n m → Whole log n

@@ -9,17 +9,17 @@ use Rattle.reader.specs.Record.{lengthOf, eventOf, encode, decodeAt}
 use Rattle.reader.specs.Log.{ofOthers, pendingCalls, pendingKind, earliestRemove, addedValues, isIn, eventFault, fault, scan, readPartial, operations, encodeAll, Reading, readable, readLog, encodeLog}
 use Rattle.history.specs.History.{History}
 use Rattle.history.specs.Operations.{callIndex, firstOf, positionOf, historyOf}
-use Rattle.history.specs.Runs.{recordsFrom, recordsOf, Row, Holds, Each, Verdict, order, Judged, runs, NoneLegal, refusedOrders}
+use Rattle.history.specs.Runs.{recordsFrom, recordsOf, Row, Holds, Each, Expected, order, Judged, runs, NoneLegal, illegalOrders}
 use Rattle.history.proofs.Deciding.{linearization?}
 
 -- whether each of a list has a property
-each? : {A : Type 0} {P : A → Type 0} → ((a : A) → Dec (P a)) → (xs : List A) → Dec (Each P xs)
+unfoldable pub each? : {A : Type 0} {P : A → Type 0} → ((a : A) → Dec (P a)) → (xs : List A) → Dec (Each P xs)
 unfolding Dec·and
 each? d [] = yes tt
 each? d (x ∷ xs) = Dec·and (d x) (each? d xs)
 
--- whether a verdict is right, and whether none of some lists is a legal order
-judged? : (h : History) (verdict : Verdict) → Dec (Judged h verdict)
+-- whether what is expected is right, and whether none of some lists is a legal order
+judged? : (h : History) (expected : Expected) → Dec (Judged h expected)
 unfolding linearization?
 judged? h (order listed) = linearization? h listed
 
@@ -28,16 +28,16 @@ unfolding each? linearization? Dec·not
 none-legal? h lists = each? (λ listed. Dec·not (linearization? h listed)) lists
 
 -- the history of a row's run, and what its log is read as; to unfold the two is to unfold all that computes them
-history : {A : Type 0} → Row A → History
+unfoldable pub history : {A : Type 0} → Row A → History
 unfolding recordsFrom operations callIndex firstOf positionOf
 history row = historyOf (recordsOf (row .run))
 
-reading : {A : Type 0} → Row A → Reading
+unfoldable pub reading : {A : Type 0} → Row A → Reading
 unfolding recordsFrom encode encodeAll bytesOf bigEndian lengthOf eventOf decodeAt ofOthers pendingCalls pendingKind earliestRemove addedValues isIn eventFault fault scan readPartial
 reading row = readLog (encodeLog (recordsOf (row .run)))
 
 -- a table holds if the logs of its runs are read as their records and what its rows say is decided to be right
-rows-hold : {A : Type 0} {Right : History → A → Type 0} (right? : (h : History) (says : A) → Dec (Right h says)) (rows : List (Row A))
+pub rows-hold : {A : Type 0} {Right : History → A → Type 0} (right? : (h : History) (says : A) → Dec (Right h says)) (rows : List (Row A))
     → map reading rows ≡ map (λ row. readable (recordsOf (row .run))) rows → decide (each? (λ row. right? (history row) (row .says)) rows) ≡ true → Each (Holds Right) rows
 unfolding history reading
 rows-hold {A} {Right} right? rows read right = go rows read (decide-iff (each? (λ row. right? (history row) (row .says)) rows) .0 right)
@@ -50,6 +50,6 @@ pub runs-hold : Each (Holds Judged) runs
 unfolding decide each? judged? history reading
 runs-hold = rows-hold judged? runs refl refl
 
-pub refused-orders-hold : Each (Holds NoneLegal) refusedOrders
+pub illegal-orders-hold : Each (Holds NoneLegal) illegalOrders
 unfolding decide each? none-legal? history reading
-refused-orders-hold = rows-hold none-legal? refusedOrders refl refl
+illegal-orders-hold = rows-hold none-legal? illegalOrders refl refl

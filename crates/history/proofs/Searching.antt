@@ -1,38 +1,67 @@
--- The search for the latest operation of a client.
+-- The search for the latest operation of a client, along the operations that share its slot.
 use Prim.Native.Nat.{ℕ, _-_, _≤_, _<_}
 use native.Mathlib.Omega.{arith}
-use mathlib.Core.Path.{_≡_}
+use native.Mathlib.Decide.{decLt, ℕ-discrete}
+use mathlib.Core.Path.{_≡_, sym, ap, _∙_}
 use mathlib.Core.List.{List}
 use lib.ListN.{getD}
 use Rattle.reader.specs.Log.{maxRecords}
-use Rattle.reader.proofs.Search.{decEq}
-use Rattle.history.specs.Table.{Latest}
+use Rattle.history.specs.Callers.{slotOf, clientAt, linkAt, Top, Linked, LeadsDown, Found}
 
--- The loop of `latest_of`: none of the operations from o up to `count` is the client's.
-pub record Unmet (clients : List ℕ) (count client o : ℕ) : Type 0 where
-  pub within : o ≤ count
-  pub none : (p : ℕ) → o ≤ p → p < count → getD clients p 0 ≡ client → ⊥
+-- None of the first `count` operations from n on is the client's, and the one below n shares its slot.
+pub record UnmetOf (callers : List ℕ) (count client n : ℕ) : Type 0 where
+  pub within : n ≤ count
+  pub none : (p : ℕ) → n ≤ p → p < count → clientAt callers p ≡ client → ⊥
+  pub shares : 0 < n → slotOf (clientAt callers (n - 1)) ≡ slotOf client
 
-pub unmet-all : (clients : List ℕ) (count client o : ℕ) → o ≡ count → Unmet clients count client o
-unmet-all clients count client o e = record { within = omega arith; none = λ p l h. absurd (omega arith) }
+-- The loop of `latest_of` has come down to n.
+pub record Unmet (callers recent : List ℕ) (client n : ℕ) : Type 0 where
+  pub small : n ≤ maxRecords
+  pub unmet : (count : ℕ) → Linked callers recent count → UnmetOf callers count client n
 
-pub unmet-hit : {clients : List ℕ} {count client o : ℕ} → Unmet clients count client o → 0 < o → count ≤ maxRecords → getD clients (o - 1) 0 ≡ client → Latest clients count client (o - 1)
-unmet-hit unmet l few e = record {
-  small = omega (arith, unmet .within);
-  found = λ p h q. (omega (arith, unmet .within), e);
-  later = λ p m. unmet .none p (omega arith);
-}
-
-pub unmet-miss : {clients : List ℕ} {count client o : ℕ} → Unmet clients count client o → 0 < o → (getD clients (o - 1) 0 ≡ client → ⊥) → Unmet clients count client (o - 1)
-unmet-miss {clients} {count} {client} {o} unmet l n = record { within = omega (arith, unmet .within); none = λ p m h e. by p m h e (decEq p (o - 1)) }
+pub unmet-all : (callers recent : List ℕ) (client n : ℕ) → LeadsDown callers recent → n ≡ getD recent (slotOf client) 0 → Unmet callers recent client n
+unmet-all callers recent client n down e = record { small = omega (arith, down .slots (slotOf client)); unmet = λ count linked. of count (linked .tops (slotOf client)) }
   where
-    by : (p : ℕ) → o - 1 ≤ p → p < count → getD clients p 0 ≡ client → Dec (p ≡ o - 1) → ⊥
-    by p m h e (yes q) = n (rw q at e)
-    by p m h e (no q) = unmet .none p (omega arith) h e
+    of : (count : ℕ) → Top callers count (slotOf client) (getD recent (slotOf client) 0) → UnmetOf callers count client n
+    of count top = record {
+      within = omega (arith, top .within);
+      none = λ p l h same. omega (arith, top .above p h (ap slotOf same));
+      shares = rw e (top .shares);
+    }
 
-pub unmet-none : {clients : List ℕ} {count client o : ℕ} → Unmet clients count client o → o ≤ 0 → Latest clients count client 0
-unmet-none unmet l = record {
-  small = omega arith;
-  found = λ p h e. absurd (unmet .none p (omega arith) h e);
-  later = λ p m h e. unmet .none p (omega arith) h e;
-}
+module _ {callers recent : List ℕ} {client n : ℕ} (unmet : Unmet callers recent client n) where
+  pub unmet-hit : 0 < n → clientAt callers (n - 1) ≡ client → Found callers recent client (n - 1)
+  unmet-hit l e = record {
+    small = omega (arith, unmet .small);
+    latest = λ count linked. let of = unmet .unmet count linked in record {
+      found = λ p h same. (omega (arith, of .within), e);
+      later = λ p m h. of .none p (omega arith) h;
+    };
+  }
+
+  pub unmet-miss : LeadsDown callers recent → 0 < n → (clientAt callers (n - 1) ≡ client → ⊥) → Unmet callers recent client (linkAt callers (n - 1))
+  unmet-miss down l d = record { small = omega (arith, down .links (n - 1), unmet .small); unmet = λ count linked. of count linked (unmet .unmet count linked) }
+    where
+      of : (count : ℕ) → Linked callers recent count → UnmetOf callers count client n → UnmetOf callers count client (linkAt callers (n - 1))
+      of count linked old = record {
+        within = omega (arith, below .within, old .within);
+        none = λ p m h same. by p m h same (decLt p (n - 1)) (ℕ-discrete p (n - 1));
+        shares = λ some. below .shares some ∙ old .shares l;
+      }
+        where
+          below : Top callers (n - 1) (slotOf (clientAt callers (n - 1))) (linkAt callers (n - 1))
+          below = linked .links (n - 1) (omega (arith, old .within))
+
+          by : (p : ℕ) → linkAt callers (n - 1) ≤ p → p < count → clientAt callers p ≡ client → Dec (p < n - 1) → Dec (p ≡ n - 1) → ⊥
+          by p m h same (yes b) q = omega (arith, below .above p b (ap slotOf same ∙ sym (old .shares l)))
+          by p m h same (no b) (yes q) = d (rw q at same)
+          by p m h same (no b) (no q) = old .none p (omega arith) h same
+
+  pub unmet-none : n ≤ 0 → Found callers recent client 0
+  unmet-none l = record {
+    small = omega arith;
+    latest = λ count linked. let of = unmet .unmet count linked in record {
+      found = λ p h same. absurd (of .none p (omega arith) h same);
+      later = λ p m h same. of .none p (omega arith) h same;
+    };
+  }

@@ -13,6 +13,10 @@ remove = 2
 abbrev pub emptyRemove : ℕ
 emptyRemove = 3
 
+-- what has no kind is in no legal order
+abbrev pub noKind : ℕ
+noKind = 0
+
 pub record History : Type 0 where
   -- how many operations there are
   pub count : ℕ

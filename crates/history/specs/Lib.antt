@@ -3,4 +3,5 @@ pub mod Linearization
 pub mod Operations
 pub mod Sheet
 pub mod Runs
+pub mod Callers
 pub mod Table

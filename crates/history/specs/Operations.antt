@@ -11,7 +11,7 @@ use Rattle.reader.specs.declared.record.Removed.the-variants.{Value, Empty}
 use Rattle.reader.specs.declared.record.Event.{Event}
 use Rattle.reader.specs.declared.record.Event.the-variants.{CallAdd, CallRemove, ReturnAdd, ReturnRemove}
 use Rattle.reader.specs.declared.record.Record.{Record}
-use Rattle.history.specs.History.{History, add, remove, emptyRemove}
+use Rattle.history.specs.History.{History, add, remove, emptyRemove, noKind}
 
 -- the index of the call record of operation o
 unfoldable pub callIndex : List Record → ℕ → ℕ
@@ -27,11 +27,11 @@ firstOf client (r ∷ records) = if eqb (r .client) client then 0 else suc (firs
 abbrev pub returnIndex : List Record → ℕ → ℕ
 returnIndex records i = i + 1 + firstOf (recordOf records i .client) (drop (i + 1) records)
 
--- the kind of a remove, by the event of its return; 0 for no return of a remove
+-- the kind of a remove, by the event of its return; a remove without return has none
 abbrev pub removeKind : Event → ℕ
-removeKind (CallAdd v) = 0
-removeKind CallRemove = 0
-removeKind ReturnAdd = 0
+removeKind (CallAdd v) = noKind
+removeKind CallRemove = noKind
+removeKind ReturnAdd = noKind
 removeKind (ReturnRemove (Value v)) = remove
 removeKind (ReturnRemove Empty) = emptyRemove
 
@@ -39,8 +39,8 @@ removeKind (ReturnRemove Empty) = emptyRemove
 abbrev pub kindBy : Event → Event → ℕ
 kindBy (CallAdd v) return = add
 kindBy CallRemove return = removeKind return
-kindBy ReturnAdd return = 0
-kindBy (ReturnRemove x) return = 0
+kindBy ReturnAdd return = noKind
+kindBy (ReturnRemove x) return = noKind
 
 abbrev pub valueBy : Event → Event → ℕ
 valueBy (CallAdd v) return = v

@@ -39,14 +39,15 @@ abbrev pub Each : {A : Type 0} → (A → Type 0) → List A → Type 0
 Each P [] = Unit {0}
 Each P (x ∷ xs) = P x × Each P xs
 
-pub data Verdict : Type 0 where
-  order : List ℕ → Verdict
+-- the verdict that document 01 gives for a run
+pub data Expected : Type 0 where
+  order : List ℕ → Expected
 
--- A verdict is right for a history.
-abbrev pub Judged : History → Verdict → Type 0
+-- What document 01 says of a run's verdict is right for a history.
+abbrev pub Judged : History → Expected → Type 0
 Judged h (order listed) = Linearization h listed
 
-abbrev pub runs : List (Row Verdict)
+abbrev pub runs : List (Row Expected)
 runs =
     -- no records: order, k = 0
     record { run = []; says = order [] } ∷
@@ -68,8 +69,8 @@ runs =
 abbrev pub NoneLegal : History → List (List ℕ) → Type 0
 NoneLegal h lists = Each (λ listed. Linearization h listed → ⊥) lists
 
-abbrev pub refusedOrders : List (Row (List (List ℕ)))
-refusedOrders =
+abbrev pub illegalOrders : List (Row (List (List ℕ)))
+illegalOrders =
     -- A7( A7) R( R7): the remove is left out; there is no operation 2
     record { run = (0, CallAdd 7) ∷ (0, ReturnAdd) ∷ (1, CallRemove) ∷ (1, ReturnRemove (Value 7)) ∷ []; says = (0 ∷ []) ∷ (0 ∷ 1 ∷ 2 ∷ []) ∷ [] } ∷
     -- R( A7( R7) A7): 7 is not there yet; the add is listed twice
@@ -84,6 +85,6 @@ refusedOrders =
     record { run = (0, CallAdd 0) ∷ (1, CallRemove) ∷ (0, ReturnAdd) ∷ (1, ReturnRemove (Value 0)) ∷ []; says = (1 ∷ 0 ∷ []) ∷ [] } ∷
     -- A1( A2( A1) A2) R( R2): 1 is at the front
     record { run = (0, CallAdd 1) ∷ (1, CallAdd 2) ∷ (0, ReturnAdd) ∷ (1, ReturnAdd) ∷ (2, CallRemove) ∷ (2, ReturnRemove (Value 2)) ∷ []; says = (0 ∷ 1 ∷ 2 ∷ []) ∷ [] } ∷
-    -- A3( A1( A1) A2( A2) A3): 1 precedes 2, also where 0 stands between them
+    -- A3( A1( A1) A2( A2) A3): the add of 1 precedes the add of 2, also where the add of 3 stands between them
     record { run = (0, CallAdd 3) ∷ (1, CallAdd 1) ∷ (1, ReturnAdd) ∷ (2, CallAdd 2) ∷ (2, ReturnAdd) ∷ (0, ReturnAdd) ∷ []; says = (2 ∷ 0 ∷ 1 ∷ []) ∷ [] } ∷
     []

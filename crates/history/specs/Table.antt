@@ -1,5 +1,5 @@
 -- What the code keeps of a history: a table of numbers, four for each operation. What a history is can be understood without this file.
-use Prim.Native.Nat.{ℕ, _+_, _*_, _%_, _≤_, _<_}
+use Prim.Native.Nat.{ℕ, _+_, _*_, _≤_, _<_}
 use mathlib.Core.Path.{_≡_}
 use mathlib.Core.List.{List}
 use lib.ListN.{length, getD, take}
@@ -8,6 +8,7 @@ use Rattle.reader.specs.Readable.{recordOf, ReadableLog}
 use Rattle.reader.specs.declared.record.Event.{Event}
 use Rattle.reader.specs.declared.record.Event.the-variants.{CallRemove}
 use Rattle.reader.specs.declared.record.Record.{Record}
+use Rattle.history.specs.Callers.{clientAt, linkAt, Linked, LeadsDown}
 use Rattle.history.specs.History.{History}
 use Rattle.history.specs.Operations.{callIndex, returnIndex, kindBy, valueBy, historyOf}
 
@@ -18,16 +19,22 @@ fields = 4
 abbrev pub tableLength : ℕ
 tableLength = 4096
 
+-- the fields of an operation's entry
+abbrev pub kindAt : List ℕ → ℕ → ℕ
+kindAt table o = getD table (o * fields + 0) 0
+
+abbrev pub valueAt : List ℕ → ℕ → ℕ
+valueAt table o = getD table (o * fields + 1) 0
+
+abbrev pub callAt : List ℕ → ℕ → ℕ
+callAt table o = getD table (o * fields + 2) 0
+
+abbrev pub returnAt : List ℕ → ℕ → ℕ
+returnAt table o = getD table (o * fields + 3) 0
+
 -- the history that a table holds, of so many operations and with this end
 abbrev pub tabled : ℕ → ℕ → List ℕ → History
-tabled count end table = record {
-  count = count;
-  kind = λ o. getD table (o * fields + 0) 0;
-  value = λ o. getD table (o * fields + 1) 0;
-  call = λ o. getD table (o * fields + 2) 0;
-  ret = λ o. getD table (o * fields + 3) 0;
-  end = end;
-}
+tabled count end table = record { count = count; kind = kindAt table; value = valueAt table; call = callAt table; ret = returnAt table; end = end }
 
 -- Two histories agree on all that they tell of their operations.
 pub record Agree (h k : History) : Type 0 where
@@ -38,33 +45,32 @@ pub record Agree (h k : History) : Type 0 where
   pub call : (o : ℕ) → o < h .count → h .call o ≡ k .call o
   pub ret : (o : ℕ) → o < h .count → h .ret o ≡ k .ret o
 
--- The table holds the history of a log that is readable, and is as it was for one that is refused.
+-- The entries from operation `count` on are as they were.
+abbrev pub Untouched : ℕ → List ℕ → List ℕ → Type 0
+Untouched count before after = (o f : ℕ) → count ≤ o → f < fields → getD after (o * fields + f) 0 ≡ getD before (o * fields + f) 0
+
+-- The table holds the history of a log that is readable, and nothing else of it has changed; for a log that is refused it is as it was.
+pub record HistoryHeld (records : List Record) (before after : List ℕ) : Type 0 where
+  pub sized : length after ≡ tableLength
+  pub agree : Agree (tabled (operations records) (length records) after) (historyOf records)
+  pub untouched : Untouched (operations records) before after
+
 abbrev pub Tabulated : Reading → List ℕ → List ℕ → Type 0
-Tabulated (readable records) before after = (length after ≡ tableLength) × Agree (tabled (operations records) (length records) after) (historyOf records)
+Tabulated (readable records) before after = HistoryHeld records before after
 Tabulated (refused number index) before after = after ≡ before
 
 -- Operation o has this entry.
 pub record Entry (table : List ℕ) (o kind value call ret : ℕ) : Type 0 where
-  pub kind-is : getD table (o * fields + 0) 0 ≡ kind
-  pub value-is : getD table (o * fields + 1) 0 ≡ value
-  pub call-is : getD table (o * fields + 2) 0 ≡ call
-  pub ret-is : getD table (o * fields + 3) 0 ≡ ret
+  pub kind-is : kindAt table o ≡ kind
+  pub value-is : valueAt table o ≡ value
+  pub call-is : callAt table o ≡ call
+  pub ret-is : returnAt table o ≡ ret
 
 -- Operation o has this entry now, and the others are as they were.
 pub record Entered (table : List ℕ) (o kind value call ret : ℕ) (table' : List ℕ) : Type 0 where
   pub entry : Entry table' o kind value call ret
   pub others : (p f : ℕ) → f < fields → (p ≡ o → ⊥) → getD table' (p * fields + f) 0 ≡ getD table (p * fields + f) 0
   pub sized : length table' ≡ length table
-
--- where it is kept which operation of a client was the latest: clients whose numbers differ by 1,024 share a slot
-abbrev pub slotOf : ℕ → ℕ
-slotOf client = client % maxRecords
-
--- o is the latest of the first `count` operations that is of this client, or 0 if none is.
-pub record Latest (clients : List ℕ) (count client o : ℕ) : Type 0 where
-  pub small : o < maxRecords
-  pub found : (p : ℕ) → p < count → getD clients p 0 ≡ client → (o < count) × (getD clients o 0 ≡ client)
-  pub later : (p : ℕ) → o < p → p < count → getD clients p 0 ≡ client → ⊥
 
 -- The entry of operation o, with what this event of its return says and this position of it.
 abbrev pub Told : List Record → List ℕ → ℕ → Event → ℕ → Type 0
@@ -73,32 +79,32 @@ Told records table o return ret =
 
 -- The tables hold what the first n records say: of each operation called by then its client and its call, its kind, value and
 -- return if it has returned by then, and otherwise what its call alone says.
-pub record Filled (records : List Record) (n count : ℕ) (clients recent table : List ℕ) : Type 0 where
+pub record Filled (records : List Record) (old : List ℕ) (n count : ℕ) (callers recent table : List ℕ) : Type 0 where
   pub counted : count ≡ operations (take n records)
-  pub clients-sized : length clients ≡ maxRecords
+  pub callers-sized : length callers ≡ maxRecords
   pub recent-sized : length recent ≡ maxRecords
   pub table-sized : length table ≡ tableLength
-  -- no operation of a client has the number that stands in the client's slot, or a higher one
-  pub recent-small : (slot : ℕ) → getD recent slot 0 ≤ count
-  pub recent-above : (o : ℕ) → o < count → o < getD recent (slotOf (getD clients o 0)) 0
-  pub clients-are : (o : ℕ) → o < count → getD clients o 0 ≡ recordOf records (callIndex records o) .client
+  pub untouched : Untouched count old table
+  pub linked : Linked callers recent count
+  pub link-small : (o : ℕ) → linkAt callers o ≤ o
+  pub clients-are : (o : ℕ) → o < count → clientAt callers o ≡ recordOf records (callIndex records o) .client
   pub returned : (o : ℕ) → o < count → returnIndex records (callIndex records o) < n → Told records table o (recordOf records (returnIndex records (callIndex records o)) .event) (returnIndex records (callIndex records o))
   pub pending : (o : ℕ) → o < count → n ≤ returnIndex records (callIndex records o) → Told records table o CallRemove (length records)
 
 -- There is room for one record more.
-pub record Room (index count end : ℕ) (clients recent table : List ℕ) : Type 0 where
+pub record Room (index count end : ℕ) (callers recent table : List ℕ) : Type 0 where
   pub index-small : index < maxRecords
   pub count-small : count < maxRecords
   pub end-small : end ≤ maxRecords
-  pub recent-small : (slot : ℕ) → getD recent slot 0 ≤ maxRecords
-  pub clients-sized : length clients ≡ maxRecords
+  pub leads-down : LeadsDown callers recent
+  pub callers-sized : length callers ≡ maxRecords
   pub recent-sized : length recent ≡ maxRecords
   pub table-sized : length table ≡ tableLength
 
 -- The tables hold one record more, r, which has this index.
-pub record Noted (r : Record) (index count end : ℕ) (clients recent table : List ℕ) (count' : ℕ) (clients' recent' table' : List ℕ) : Type 0 where
-  pub kept : (log : List ℕ) (records : List Record) → ReadableLog log records → length records ≡ end → index < end → recordOf records index ≡ r
-      → Filled records index count clients recent table → Filled records (index + 1) count' clients' recent' table'
+pub record Noted (r : Record) (index count end : ℕ) (callers recent table : List ℕ) (count' : ℕ) (callers' recent' table' : List ℕ) : Type 0 where
+  pub kept : (log : List ℕ) (records : List Record) (old : List ℕ) → ReadableLog log records → length records ≡ end → index < end → recordOf records index ≡ r
+      → Filled records old index count callers recent table → Filled records old (index + 1) count' callers' recent' table'
 
 -- A log that is readable, of so many records.
 pub record Whole (log : List ℕ) (count : ℕ) : Type 0 where

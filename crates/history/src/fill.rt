@@ -7,10 +7,10 @@ ghost use Rattle.reader.specs.Readable.{valueIn};
 ghost use Rattle.reader.specs.declared.record.Event.the-variants.{ReturnRemove};
 ghost use Rattle.history.specs.Operations.{removeKind};
 ghost use Rattle.history.specs.Table.{tableLength, Tabulated, Entered, Room, Noted, Whole};
-use crate::clients::Clients;
-use crate::clients::Recent;
-use crate::clients::begin;
-use crate::clients::latest_of;
+use crate::callers::Callers;
+use crate::callers::Recent;
+use crate::callers::begin;
+use crate::callers::latest_of;
 use crate::operations::ADD;
 use crate::operations::CALL;
 use crate::operations::EMPTY_REMOVE;
@@ -29,7 +29,7 @@ use reader::record::Record;
 use reader::record::Removed;
 
 // The kind of a remove until its return is read.
-const UNKNOWN: u32 = 0;
+const NO_KIND: u32 = 0;
 
 // What a remove is, by its return.
 pub struct Outcome {
@@ -71,36 +71,37 @@ fn note(
     index: usize,
     count: usize,
     end: usize,
-    clients: &mut Clients,
+    callers: &mut Callers,
     recent: &mut Recent,
     table: &mut Operations,
 ) -> usize
-    requires { ⌜ Room index count end (now clients) (now recent) (now table) ⌝ }
-    ensures { λ q. ⌜ Noted r index count end (now (clients .entry)) (now (recent .entry)) (now (table .entry)) q (now (clients .exit)) (now (recent .exit)) (now (table .exit)) ⌝ }
+    requires { ⌜ Room index count end (now callers) (now recent) (now table) ⌝ }
+    ensures { λ q. ⌜ Noted r index count end (now (callers .entry)) (now (recent .entry)) (now (table .entry)) q (now (callers .exit)) (now (recent .exit)) (now (table .exit)) ⌝ }
 {
     let client = r.client as u32;
     let event = r.event;
+    // A record's position is its index.
     let at = index as u32;
     match event {
         Event::CallAdd(value) => {
-            begin(clients, recent, count, client);
+            begin(callers, recent, count, client);
             enter(table, count, ADD, value, at, end as u32);
             count + 1
         }
         Event::CallRemove => {
-            begin(clients, recent, count, client);
-            enter(table, count, UNKNOWN, 0, at, end as u32);
+            begin(callers, recent, count, client);
+            enter(table, count, NO_KIND, 0, at, end as u32);
             count + 1
         }
         Event::ReturnAdd => {
-            let o = latest_of(clients, recent, client);
+            let o = latest_of(callers, recent, client);
             let value = table[o * FIELDS + VALUE];
             let call = table[o * FIELDS + CALL];
             enter(table, o, ADD, value, call, at);
             count
         }
         Event::ReturnRemove(removed) => {
-            let o = latest_of(clients, recent, client);
+            let o = latest_of(callers, recent, client);
             let outcome = outcome_of(removed);
             let call = table[o * FIELDS + CALL];
             enter(table, o, outcome.kind, outcome.value, call, at);
@@ -114,18 +115,19 @@ pub fn fill(log: &[u8], end: usize, table: &mut Operations)
     requires { ⌜ Whole (now log) end × (length (now table) ≡ tableLength) ⌝ }
     ensures { λ _. ⌜ Tabulated (readLog (now (log .entry))) (now (table .entry)) (now (table .exit)) ⌝ }
 {
-    let mut clients = [0u32; MAX_RECORDS];
+    let mut callers = [0u32; MAX_RECORDS];
     let mut recent = [0u32; MAX_RECORDS];
     let mut at = HEADER;
     let mut count = 0;
     let mut i = 0;
     while i < end {
         match read_at(log, at) {
+            // A readable log has a record here.
             Decoded::Malformed(_) => {
                 return;
             }
             Decoded::Found { record, next } => {
-                count = note(record, i, count, end, &mut clients, &mut recent, table);
+                count = note(record, i, count, end, &mut callers, &mut recent, table);
                 at = next;
             }
         }

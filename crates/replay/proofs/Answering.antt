@@ -50,7 +50,7 @@ module _ (log sheet : List ℕ) {answer : Checked} {n m : ℕ} (e : answer ≡ c
     agree =
         let (records, reads, l, o) = read in
         let held : Tabulated (readable records) before table = rw reads at tabulated in
-        tabled-same table (historyOf records) o l (held .1)
+        tabled-same table (historyOf records) o l (held .agree)
 
     pub order-legal : Linearization (tabled m n table) (listedOn sheet) → Yes ≡ replayed (readLog log) sheet
     order-legal legal = rw (read .1, s) (go (linearization? (historyOf (read .0)) (listedOn sheet)))

@@ -7,7 +7,6 @@ use mathlib.Core.Bool.{Bool, true, false}
 use mathlib.Core.List.{List}
 use lib.ListN.{length, getD, List·getD-eq-default}
 use borrow.Author.Tests.{eq-eqb}
-use Rattle.reader.specs.Choice.{if_then_else_}
 use Rattle.reader.specs.Log.{maxRecords, Reading, readable, refused, readLog, operations}
 use Rattle.reader.specs.Readable.{Within}
 use Rattle.reader.specs.declared.record.Record.{Record}
@@ -18,46 +17,81 @@ use Rattle.history.specs.Sheet.{orderVerdict, sheetHeader, sheetOf, listedField
 use Rattle.history.proofs.Counting.{order-short}
 use Rattle.history.proofs.Deciding.{linearization?}
 use Rattle.history.proofs.Sheets.{sheet-length, sheet-lists, listed-length}
-use Rattle.replay.specs.Replay.{wrongSheet, isOrderSheet, says, replayed}
-use Rattle.replay.proofs.Running.{sheet-by-length}
+use Rattle.replay.specs.Replay.{wrongSheet, isOrderSheet, replayed, LegalOrder}
+use Rattle.replay.proofs.Forms.{sheet-by-length}
 use Rattle.replay.specs.declared.replay.Replayed.the-variants.{Yes, No, Refused}
 
-module _ (records : List Record) (sheet : List ℕ) where
-  -- a yes means that the sheet lists a legal order
-  pub yes-is-legal : replayed (readable records) sheet ≡ Yes → Linearization (historyOf records) (listedOn sheet)
-  yes-is-legal e = go (isOrderSheet sheet) (linearization? (historyOf records) (listedOn sheet)) e
-    where
-      go : (form : Bool) (d : Dec (Linearization (historyOf records) (listedOn sheet))) → (if form then says d else Refused wrongSheet 0) ≡ Yes → Linearization (historyOf records) (listedOn sheet)
-      go false d e = let z : _≡_ {A = ℕ} 0 1 = cc in absurd (omega arith)
-      go true (yes legal) e = legal
-      go true (no n) e = let z : _≡_ {A = ℕ} 0 1 = cc in absurd (omega arith)
+-- what replay finds of a readable log and a sheet
+data Found (records : List Record) (sheet : List ℕ) : Type 0 where
+  legal : isOrderSheet sheet ≡ true → Linearization (historyOf records) (listedOn sheet) → replayed (readable records) sheet ≡ Yes → Found records sheet
+  other : isOrderSheet sheet ≡ true → (Linearization (historyOf records) (listedOn sheet) → ⊥) → replayed (readable records) sheet ≡ No → Found records sheet
+  formless : isOrderSheet sheet ≡ false → replayed (readable records) sheet ≡ Refused wrongSheet 0 → Found records sheet
 
-  -- and to a sheet of the right form that lists one it says yes
-  pub legal-is-yes : isOrderSheet sheet ≡ true → Linearization (historyOf records) (listedOn sheet) → replayed (readable records) sheet ≡ Yes
-  legal-is-yes form legal = rw form (go (linearization? (historyOf records) (listedOn sheet)))
-    where
-      go : (d : Dec (Linearization (historyOf records) (listedOn sheet))) → says d ≡ Yes
-      go (yes l) = refl
-      go (no n) = absurd (n legal)
+found : (records : List Record) (sheet : List ℕ) → Found records sheet
+found records sheet = go (isOrderSheet sheet) refl
+  where
+    by : isOrderSheet sheet ≡ true → (d : Dec (Linearization (historyOf records) (listedOn sheet))) → linearization? (historyOf records) (listedOn sheet) ≡ d → Found records sheet
+    by form (yes l) e = legal form l (rw (form, e) refl)
+    by form (no n) e = other form n (rw (form, e) refl)
 
-  -- a no means that it lists no legal order
-  pub no-is-not-legal : replayed (readable records) sheet ≡ No → Linearization (historyOf records) (listedOn sheet) → ⊥
-  no-is-not-legal e legal = go (isOrderSheet sheet) (linearization? (historyOf records) (listedOn sheet)) e
-    where
-      go : (form : Bool) (d : Dec (Linearization (historyOf records) (listedOn sheet))) → (if form then says d else Refused wrongSheet 0) ≡ No → ⊥
-      go false d e = let z : _≡_ {A = ℕ} 0 1 = cc in omega arith
-      go true (yes l) e = let z : _≡_ {A = ℕ} 0 1 = cc in omega arith
-      go true (no n) e = n legal
+    go : (form : Bool) → isOrderSheet sheet ≡ form → Found records sheet
+    go true form = by form (linearization? (historyOf records) (listedOn sheet)) refl
+    go false form = formless form (rw form refl)
 
-  -- 11 comes exactly with a sheet of another form, and of a readable log's sheet nothing else is refused
-  pub refused-is-form : {number index : ℕ} → replayed (readable records) sheet ≡ Refused number index → (isOrderSheet sheet ≡ false) × (number ≡ wrongSheet) × (index ≡ 0)
-  refused-is-form {number} {index} e = go (isOrderSheet sheet) refl (linearization? (historyOf records) (listedOn sheet)) e
+-- Replay says yes exactly if the log is readable and the sheet lists a legal order of it.
+pub yes-is-legal : (log sheet : List ℕ) → replayed (readLog log) sheet ≡ Yes → LegalOrder log sheet
+yes-is-legal log sheet e = go (readLog log) refl e
+  where
+    go : (reading : Reading) → readLog log ≡ reading → replayed reading sheet ≡ Yes → LegalOrder log sheet
+    go (refused number index) reads e = let z : _≡_ {A = ℕ} 0 1 = cc in absurd (omega arith)
+    go (readable records) reads e = by (found records sheet)
+      where
+        by : Found records sheet → LegalOrder log sheet
+        by (legal form l r) = record { records = records; reads = reads; form = form; legal = l }
+        by (other form n r) = let z : _≡_ {A = ℕ} 0 1 = cc in absurd (omega arith)
+        by (formless form r) = let z : _≡_ {A = ℕ} 0 1 = cc in absurd (omega arith)
+
+pub legal-is-yes : (log sheet : List ℕ) → LegalOrder log sheet → replayed (readLog log) sheet ≡ Yes
+legal-is-yes log sheet order = rw (order .reads) (by (found (order .records) sheet))
+  where
+    by : Found (order .records) sheet → replayed (readable (order .records)) sheet ≡ Yes
+    by (legal form l r) = r
+    by (other form n r) = absurd (n (order .legal))
+    by (formless form r) = let z : true ≡ false = sym (order .form) ∙ form in let w : _≡_ {A = ℕ} 0 1 = cc in absurd (omega arith)
+
+module _ (log sheet : List ℕ) (records : List Record) (reads : readLog log ≡ readable records) where
+  -- It says no exactly if the log is readable and the sheet, of the right form, lists another order.
+  pub no-is-other : replayed (readLog log) sheet ≡ No → (isOrderSheet sheet ≡ true) × (Linearization (historyOf records) (listedOn sheet) → ⊥)
+  no-is-other e = let e' : replayed (readable records) sheet ≡ No = rw reads at e in by e' (found records sheet)
     where
-      go : (form : Bool) → isOrderSheet sheet ≡ form → (d : Dec (Linearization (historyOf records) (listedOn sheet)))
-          → (if form then says d else Refused wrongSheet 0) ≡ Refused number index → (isOrderSheet sheet ≡ false) × (number ≡ wrongSheet) × (index ≡ 0)
-      go false f d e = (f, cc, cc)
-      go true f (yes l) e = let z : _≡_ {A = ℕ} 0 1 = cc in absurd (omega arith)
-      go true f (no n) e = let z : _≡_ {A = ℕ} 0 1 = cc in absurd (omega arith)
+      by : replayed (readable records) sheet ≡ No → Found records sheet → (isOrderSheet sheet ≡ true) × (Linearization (historyOf records) (listedOn sheet) → ⊥)
+      by e (legal form l r) = let z : _≡_ {A = ℕ} 0 1 = cc in absurd (omega arith)
+      by e (other form n r) = (form, n)
+      by e (formless form r) = let z : _≡_ {A = ℕ} 0 1 = cc in absurd (omega arith)
+
+  pub other-is-no : isOrderSheet sheet ≡ true → (Linearization (historyOf records) (listedOn sheet) → ⊥) → replayed (readLog log) sheet ≡ No
+  other-is-no f n = rw reads (by (found records sheet))
+    where
+      by : Found records sheet → replayed (readable records) sheet ≡ No
+      by (legal form l r) = absurd (n l)
+      by (other form m r) = r
+      by (formless form r) = let z : true ≡ false = sym f ∙ form in let w : _≡_ {A = ℕ} 0 1 = cc in absurd (omega arith)
+
+  -- It refuses exactly a sheet of another form, under 11 and with index 0.
+  pub refused-is-form : {number index : ℕ} → replayed (readLog log) sheet ≡ Refused number index → (isOrderSheet sheet ≡ false) × (number ≡ wrongSheet) × (index ≡ 0)
+  refused-is-form {number} {index} e = let e' : replayed (readable records) sheet ≡ Refused number index = rw reads at e in by e' (found records sheet)
+    where
+      by : replayed (readable records) sheet ≡ Refused number index → Found records sheet → (isOrderSheet sheet ≡ false) × (number ≡ wrongSheet) × (index ≡ 0)
+      by e (legal form l r) = let z : _≡_ {A = ℕ} 0 1 = cc in absurd (omega arith)
+      by e (other form n r) = let z : _≡_ {A = ℕ} 0 1 = cc in absurd (omega arith)
+      by e (formless form r) = (form, cc, cc)
+
+  pub form-is-refused : isOrderSheet sheet ≡ false → replayed (readLog log) sheet ≡ Refused wrongSheet 0
+  form-is-refused form = rw (reads, form) refl
+
+-- A log that is refused is refused under the same number, whatever the sheet is.
+pub log-refused-first : (log sheet : List ℕ) (number index : ℕ) → readLog log ≡ refused number index → replayed (readLog log) sheet ≡ Refused number index
+log-refused-first log sheet number index e = rw e refl
 
 -- Any order that fits on a sheet can be written on one and replayed: the answer is yes exactly if it is legal.
 module _ (order : List ℕ) (few : length order < 65536) (small : (i : ℕ) → getD order i 0 < 65536) where
@@ -67,28 +101,31 @@ module _ (order : List ℕ) (few : length order < 65536) (small : (i : ℕ) → 
       let k : listedField sheet ≡ length order = sym (listed-length sheet) ∙ ap length (sheet-lists orderVerdict order few small) in
       sym (sheet-by-length sheet (omega (arith, sheet-length orderVerdict order)) refl refl) ∙ eq-eqb (length sheet) (sheetHeader + 2 * listedField sheet) (omega (arith, sheet-length orderVerdict order))
 
-  pub written-yes : (records : List Record) → replayed (readable records) (sheetOf orderVerdict order) ≡ Yes → Linearization (historyOf records) order
-  written-yes records e = rw (sheet-lists orderVerdict order few small) at (yes-is-legal records (sheetOf orderVerdict order) e)
+  pub written-yes : (log : List ℕ) → replayed (readLog log) (sheetOf orderVerdict order) ≡ Yes → (records : List Record) × (readLog log ≡ readable records) × Linearization (historyOf records) order
+  written-yes log e =
+      let found = yes-is-legal log (sheetOf orderVerdict order) e in
+      (found .records, found .reads, rw (sheet-lists orderVerdict order few small) at (found .legal))
 
-  pub written-legal : (records : List Record) → Linearization (historyOf records) order → replayed (readable records) (sheetOf orderVerdict order) ≡ Yes
-  written-legal records legal = legal-is-yes records (sheetOf orderVerdict order) written-form (rw (sheet-lists orderVerdict order few small) legal)
+  pub written-legal : (log : List ℕ) (records : List Record) → readLog log ≡ readable records → Linearization (historyOf records) order → replayed (readLog log) (sheetOf orderVerdict order) ≡ Yes
+  written-legal log records reads l =
+      legal-is-yes log (sheetOf orderVerdict order) (record { records = records; reads = reads; form = written-form; legal = rw (sheet-lists orderVerdict order few small) l })
 
 -- Every legal order of a log fits on a sheet, whoever made it, and replay says yes to it.
 pub legal-order-replays : (log : List ℕ) (records : List Record) → readLog log ≡ readable records → (order : List ℕ) → Linearization (historyOf records) order
     → replayed (readLog log) (sheetOf orderVerdict order) ≡ Yes
-legal-order-replays log records e order legal = rw e (written-legal order (omega (arith, few, order-short (historyOf records) order legal)) (λ i. small i (decLt i (length order))) records legal)
+legal-order-replays log records e order l = written-legal order (omega (arith, few, order-short (historyOf records) order l)) (λ i. small i (decLt i (length order))) log records e l
   where
     few : operations records ≤ maxRecords
     few = let short : Within (readable records) = rw e at (within log) in omega (arith, few-operations records)
 
     small : (i : ℕ) → Dec (i < length order) → getD order i 0 < 65536
-    small i (yes l) = omega (arith, few, legal .known i l)
-    small i (no l) = rw (List·getD-eq-default order 0 {n = i} (omega arith)) (omega arith)
+    small i (yes b) = omega (arith, few, l .known i b)
+    small i (no b) = rw (List·getD-eq-default order 0 {n = i} (omega arith)) (omega arith)
 
 -- a refusal has a number from 1 to 11 and an index of at most 1,024
 pub replay-within : (log sheet : List ℕ) {number index : ℕ} → replayed (readLog log) sheet ≡ Refused number index → (1 ≤ number) × (number ≤ wrongSheet) × (index ≤ maxRecords)
-replay-within log sheet {number} {index} e = go (readLog log) (within log) e
+replay-within log sheet {number} {index} e = go (readLog log) refl (within log) e
   where
-    go : (reading : Reading) → Within reading → replayed reading sheet ≡ Refused number index → (1 ≤ number) × (number ≤ wrongSheet) × (index ≤ maxRecords)
-    go (readable records) w e = let (form, n, i) = refused-is-form records sheet e in (omega arith, omega arith, omega arith)
-    go (refused n i) w e = let p : n ≡ number = cc in let q : i ≡ index = cc in (omega (arith, w .0), omega (arith, w .1), omega (arith, w .2))
+    go : (reading : Reading) → readLog log ≡ reading → Within reading → replayed reading sheet ≡ Refused number index → (1 ≤ number) × (number ≤ wrongSheet) × (index ≤ maxRecords)
+    go (readable records) reads w e = let (form, n, i) = refused-is-form log sheet records reads {number = number} {index = index} (rw reads e) in (omega arith, omega arith, omega arith)
+    go (refused n i) reads w e = let p : n ≡ number = cc in let q : i ≡ index = cc in (omega (arith, w .0), omega (arith, w .1), omega (arith, w .2))

@@ -1,5 +1,7 @@
 pub mod Answering
+pub mod Forms
 pub mod Laws
+pub mod Marking
 pub mod Placing
 pub mod Running
 pub mod Serving

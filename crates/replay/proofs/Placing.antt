@@ -1,82 +1,40 @@
 -- An order is placed operation by operation: each step keeps `Kept`, or shows that the order is not legal.
-use Prim.Native.Nat.{ℕ, zero, suc, _+_, _≤_, _<_}
+use Prim.Native.Nat.{ℕ, _+_, _≤_, _<_}
 use native.Mathlib.Omega.{arith}
+use native.Mathlib.Decide.{ℕ-discrete}
 use native.Mathlib.Numerals.{add-one}
 use mathlib.Core.Path.{_≡_, refl, sym, ap, _∙_}
 use mathlib.Core.Bool.{Bool, true, false}
 use mathlib.Core.Logic.{_⊎_, inl, inr}
 use mathlib.Core.List.{List, [], _∷_}
-use lib.ListN.{length, getD, set, drop, replicate, length-set}
+use lib.ListN.{length, getD, set, drop, length-set}
 use lib.Seq.{drop-cons, drop-length, getD-set-same, getD-set-other}
 use Rattle.reader.specs.Log.{maxRecords}
-use Rattle.reader.proofs.Search.{decEq}
 use Rattle.history.specs.History.{History, Precedes}
 use Rattle.history.specs.Linearization.{Makes, Fifo, done, then, placed, Linearization}
-use Rattle.history.proofs.Deciding.{makes-one, fifo-first}
-use Rattle.history.proofs.Reaching.{zeros}
-use Rattle.replay.specs.Trial.{total, Unmarked, waiting, Room, Served, Serves, Kept, Goes, Stepped, Sound, AllMarked, Decides}
+use Rattle.history.proofs.Queues.{makes-one, fifo-first}
+use Rattle.history.proofs.Basics.{up-to}
+use Rattle.replay.proofs.Marking.{total-mark}
+use Rattle.replay.specs.Trial.{Unmarked, waiting, Served, Serves, Kept, After, Stepped, AllPlaced, AllMarked, Decides}
 use Rattle.replay.specs.declared.order.Progress.{Progress}
 use Rattle.replay.specs.declared.order.Step.{Step}
 use Rattle.replay.specs.declared.order.Step.the-variants.{Placed, Illegal}
 
--- there are no more marks than places, and fewer if one of the places is not marked
-total-few : (n : ℕ) (marks : List ℕ) → ((o : ℕ) → getD marks o 0 ≤ 1) → total n marks ≤ n
-unfolding total
-total-few zero marks bits = omega arith
-total-few (suc n) marks bits = omega (arith, total-few n marks bits, bits n)
-
-total-fewer : (n : ℕ) (marks : List ℕ) → ((o : ℕ) → getD marks o 0 ≤ 1) → (o : ℕ) → o < n → getD marks o 0 ≡ 0 → total n marks < n
-unfolding total
-total-fewer zero marks bits o h e = absurd (omega arith)
-total-fewer (suc n) marks bits o h e = go (decEq o n) (total-fewer n marks bits o)
-  where
-    go : Dec (o ≡ n) → (o < n → getD marks o 0 ≡ 0 → total n marks < n) → total n marks + getD marks n 0 < suc n
-    go (yes s) ih = omega (arith, total-few n marks bits, ap (λ k. getD marks k 0) s)
-    go (no d) ih = omega (arith, ih (omega arith) e, bits n)
-
--- one mark more
-total-before : (n : ℕ) (marks : List ℕ) (o x : ℕ) → n ≤ o → total n (set marks o x) ≡ total n marks
-unfolding total
-total-before zero marks o x h = refl
-total-before (suc n) marks o x h = omega (arith, total-before n marks o x (omega arith), getD-set-other marks o n x 0 (λ e. omega arith))
-
-total-mark : (n : ℕ) (marks : List ℕ) (o : ℕ) → o < n → o < length marks → getD marks o 0 ≡ 0 → total n (set marks o 1) ≡ total n marks + 1
-unfolding total
-total-mark zero marks o h l e = absurd (omega arith)
-total-mark (suc n) marks o h l e = go (decEq o n) (total-mark n marks o)
-  where
-    go : Dec (o ≡ n) → (o < n → o < length marks → getD marks o 0 ≡ 0 → total n (set marks o 1) ≡ total n marks + 1)
-        → total n (set marks o 1) + getD (set marks o 1) n 0 ≡ total n marks + getD marks n 0 + 1
-    go (yes s) ih = omega (arith, total-before n marks o 1 (omega arith), ap (λ k. getD (set marks o 1) k 0) s, getD-set-same marks o 1 0 l, ap (λ k. getD marks k 0) s)
-    go (no d) ih = omega (arith, ih (omega arith) l e, getD-set-other marks o n 1 0 (λ q. d (sym q)))
-
--- there is room for the value of an operation that is not marked
-pub room-left : {count : ℕ} {p : Progress} {marks queue : List ℕ} → Room count p marks queue → {o : ℕ} → o < count → (getD marks o 0 ≡ 1 → ⊥) → p .tail < maxRecords
-room-left {count} {p} {marks} room {o} h n = omega (arith, room .room, room .few, total-fewer count marks (room .bits) o h (omega (arith, room .bits o)))
-
 -- an order that cannot go on with operation o is not legal: there is no such operation
 pub stepped-unknown : {h : History} {o : ℕ} {p : Progress} {marks queue marks' queue' : List ℕ} → h .count ≤ o → Stepped h o p marks queue Illegal marks' queue'
-stepped-unknown l = record { goes = λ order i below here kept legal. omega (arith, legal .known i below) }
+stepped-unknown l = record { after = λ order i below here kept legal. omega (arith, legal .known i below) }
 
 -- it was placed before
 pub stepped-twice : {h : History} {o : ℕ} {p : Progress} {marks queue marks' queue' : List ℕ} → getD marks o 0 ≡ 1 → Stepped h o p marks queue Illegal marks' queue'
 stepped-twice {o = o} m = record {
-  goes = λ order i below here kept legal. let (j, l, e) = kept .marked o m in legal .once j i l below (e ∙ sym here);
+  after = λ order i below here kept legal. let (j, l, e) = kept .marked o m in legal .once j i l below (e ∙ sym here);
 }
 
 -- it precedes one that was placed
 pub stepped-late : {h : History} {o : ℕ} {p : Progress} {marks queue marks' queue' : List ℕ} → h .ret o < p .latest → Stepped h o p marks queue Illegal marks' queue'
 stepped-late {h} {o} late = record {
-  goes = λ order i below here kept legal. let (j, l, e) = kept .met (omega arith) in legal .keeps j i l below (omega (arith, ap (h .ret) here));
+  after = λ order i below here kept legal. let (j, l, e) = kept .met (omega arith) in legal .keeps j i l below (omega (arith, ap (h .ret) here));
 }
-
--- what holds of all places before one, and of that one, holds of all places up to it
-pub up-to : {P : ℕ → Type 0} {i : ℕ} → ((j : ℕ) → j < i → P j) → P i → (j : ℕ) → j < i + 1 → P j
-up-to {P} {i} before new j m = go (decEq j i)
-  where
-    go : Dec (j ≡ i) → P j
-    go (yes e) = rw e new
-    go (no n) = before j (omega arith)
 
 -- otherwise it is placed, or cannot be run
 module _ (h : History) (o latest : ℕ) (p : Progress) (marks queue : List ℕ) (l : o < h .count) (fresh : getD marks o 0 ≡ 1 → ⊥) (timely : p .latest ≤ h .ret o)
@@ -89,7 +47,7 @@ module _ (h : History) (o latest : ℕ) (p : Progress) (marks queue : List ℕ) 
     rest = rw (add-one, ← here) (drop-cons order i 0 below)
 
     first : Fifo h order [] → (queue' : List ℕ) × Makes h o (waiting p queue) queue' × Fifo h (drop (i + 1) order) queue'
-    first run = fifo-first (rw rest at (kept .comes run))
+    first run = fifo-first (rw rest at (kept .rest-follows run))
 
     unplaced : ((queue' : List ℕ) → Makes h o (waiting p queue) queue' → ⊥) → Linearization h order → ⊥
     unplaced served legal = let (queue', made, more) = first (legal .runs) in served queue' made
@@ -104,14 +62,14 @@ module _ (h : History) (o latest : ℕ) (p : Progress) (marks queue : List ℕ) 
     in-marks = omega (arith, kept .has-room .marks-sized, kept .has-room .few)
 
     bits' : (r : ℕ) → getD marks' r 0 ≤ 1
-    bits' r = go (decEq r o)
+    bits' r = go (ℕ-discrete r o)
       where
         go : Dec (r ≡ o) → getD marks' r 0 ≤ 1
         go (yes e) = rw (e, getD-set-same marks o 1 0 in-marks) (omega arith)
         go (no n) = rw (getD-set-other marks o r 1 0 n) (kept .has-room .bits r)
 
     marked' : (r : ℕ) → getD marks' r 0 ≡ 1 → (j : ℕ) × (j < i + 1) × (placed order j ≡ r)
-    marked' r m = go (decEq r o)
+    marked' r m = go (ℕ-discrete r o)
       where
         go : Dec (r ≡ o) → (j : ℕ) × (j < i + 1) × (placed order j ≡ r)
         go (yes e) = (i, omega arith, here ∙ sym e)
@@ -142,14 +100,14 @@ module _ (h : History) (o latest : ℕ) (p : Progress) (marks queue : List ℕ) 
       marks-all = up-to (λ j m. getD-set-other marks o (placed order j) 1 0 (not-before j m) ∙ kept .marks-all j m) (rw here (getD-set-same marks o 1 0 in-marks));
       above = up-to (λ j m. omega (arith, kept .above j m)) (omega (arith, ap (h .call) here));
       met = rw same met';
-      goes = λ run. kept .goes (rw rest (then made run));
-      comes = λ run. let (queue'', made', rest') = first run in rw (makes-one made made') rest';
+      rest-suffices = λ run. kept .rest-suffices (rw rest (then made run));
+      rest-follows = λ run. let (queue'', made', rest') = first run in rw (makes-one made made') rest';
     }
 
   pub stepped : {step : Step} {queue' : List ℕ} → Serves (h .kind o) (h .value o) q queue step queue' → Stepped h o p marks queue step (set marks o 1) queue'
-  stepped {step} {queue'} serves = record { goes = λ order i below here kept. go step order i below here kept (serves .served h o refl refl) }
+  stepped {step} {queue'} serves = record { after = λ order i below here kept. go step order i below here kept (serves .served h o refl refl) }
     where
-      go : (step : Step) (order : List ℕ) (i : ℕ) → i < length order → placed order i ≡ o → Kept h order i p marks queue → Served h o q queue queue' step → Goes h order i (set marks o 1) queue' step
+      go : (step : Step) (order : List ℕ) (i : ℕ) → i < length order → placed order i ≡ o → Kept h order i p marks queue → Served h o q queue queue' step → After h order i (set marks o 1) queue' step
       go Illegal order i below here kept served = unplaced order i below here kept served
       go (Placed s) order i below here kept served = one-placed order i below here kept s queue' (serves .sized) served
 
@@ -164,38 +122,23 @@ kept-none h order marks queue few unmarked sized = record {
   marks-all = λ j l. absurd (omega arith);
   above = λ j l. absurd (omega arith);
   met = λ l. absurd (omega arith);
-  goes = λ run. run;
-  comes = λ run. run;
+  rest-suffices = λ run. run;
+  rest-follows = λ run. run;
 }
 
--- behind the last one
-pub kept-all : {h : History} {order marks queue : List ℕ} {p : Progress} → Kept h order (length order) p marks queue → Sound h order marks
-kept-all {order = order} kept = record {
-  known = kept .known;
-  once = kept .once;
-  keeps = kept .keeps;
-  marked = kept .marked;
-  marks-all = kept .marks-all;
-  runs = kept .goes (rw (drop-length order) done);
+-- an order all of which is placed is legal exactly if it omits no returned operation
+placed-legal : {h : History} {order marks : List ℕ} → AllPlaced h order marks → AllMarked h marks → Linearization h order
+placed-legal {order = order} all marked = record {
+  known = all .kept .known;
+  every = λ o l r. let (j, m, e) = all .kept .marked o (marked o l r) in record { at = j; below = m; here = e };
+  once = all .kept .once;
+  keeps = all .kept .keeps;
+  runs = all .kept .rest-suffices (rw (drop-length order) done);
 }
 
--- an order of which all that is asked holds is legal exactly if it omits no returned operation
-pub sound-legal : {h : History} {order marks : List ℕ} → Sound h order marks → AllMarked h marks → Linearization h order
-sound-legal {order = order} sound all = record {
-  known = sound .known;
-  every = λ o l r. let (j, m, e) = sound .marked o (all o l r) in record { at = j; below = m; here = e };
-  once = sound .once;
-  keeps = sound .keeps;
-  runs = sound .runs;
-}
+legal-marks : {h : History} {order marks : List ℕ} → AllPlaced h order marks → Linearization h order → AllMarked h marks
+legal-marks all legal o l r = let listed = legal .every o l r in rw (listed .here) at (all .kept .marks-all (listed .at) (listed .below))
 
-pub legal-marks : {h : History} {order marks : List ℕ} → Sound h order marks → Linearization h order → AllMarked h marks
-legal-marks {marks = marks} sound legal o l r = let listed = legal .every o l r in rw (listed .here) at (sound .marks-all (listed .at) (listed .below))
-
-pub legal-decided : {h : History} {order marks : List ℕ} → Sound h order marks → (all : Bool) → Decides (AllMarked h marks) all → Decides (Linearization h order) all
-legal-decided sound true all = sound-legal sound all
-legal-decided sound false some = λ legal. some (legal-marks sound legal)
-
--- a new table of marks
-pub unmarked-new : Unmarked (replicate maxRecords 0)
-unmarked-new = record { sized = refl; none = zeros maxRecords }
+pub legal-decided : {h : History} {order marks : List ℕ} → AllPlaced h order marks → (marked : Bool) → Decides (AllMarked h marks) marked → Decides (Linearization h order) marked
+legal-decided all true marked = placed-legal all marked
+legal-decided all false omitted = λ legal. omitted (legal-marks all legal)

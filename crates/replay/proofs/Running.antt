@@ -1,48 +1,23 @@
 -- The loop that places the operations of a sheet, one after the other.
 use Prim.Native.Nat.{ℕ, _+_, _*_, _≤_, _<_}
 use native.Mathlib.Omega.{arith}
-use mathlib.Core.Path.{_≡_, refl, sym, _∙_}
-use mathlib.Core.Bool.{Bool, true, false, not}
+use mathlib.Core.Path.{_≡_, sym, _∙_}
+use mathlib.Core.Bool.{true}
 use mathlib.Core.List.{List}
-use lib.ListN.{length, getD}
-use lib.Dec.{ltb, eqb}
-use borrow.Author.Tests.{eqb-true, le-ltb, ne-eqb, eq-eqb}
-use Rattle.reader.specs.Choice.{if_then_else_}
+use lib.ListN.{length}
 use Rattle.reader.specs.Number.{bigEndian}
 use Rattle.reader.specs.Log.{maxRecords}
 use Rattle.history.specs.History.{History}
 use Rattle.history.specs.Linearization.{Linearization}
-use Rattle.history.specs.Sheet.{sheetHeader, sheetVersion, orderVerdict, listedField, listedOn}
+use Rattle.history.specs.Sheet.{sheetHeader, listedField, listedOn}
 use Rattle.history.proofs.Sheets.{listed-length, listed-at}
 use Rattle.replay.specs.Replay.{isOrderSheet}
-use Rattle.replay.specs.Trial.{Unmarked, Kept, Goes, Stepped, Sound}
+use Rattle.replay.specs.Trial.{Unmarked, Kept, After, Stepped, AllPlaced}
 use Rattle.replay.specs.declared.order.Progress.{Progress}
 use Rattle.replay.specs.declared.order.Step.{Step}
 use Rattle.replay.specs.declared.order.Step.the-variants.{Placed, Illegal}
-use Rattle.replay.proofs.Placing.{kept-none, kept-all}
-
--- the tests of a sheet's form, in their order
-pub sheet-other-version : (sheet : List ℕ) → sheetHeader ≤ length sheet → (getD sheet 0 0 ≡ sheetVersion → ⊥) → false ≡ isOrderSheet sheet
-sheet-other-version sheet l v = rw (le-ltb _ _ l, ne-eqb _ _ v) refl
-
-pub sheet-other-verdict : (sheet : List ℕ) → sheetHeader ≤ length sheet → getD sheet 0 0 ≡ sheetVersion → (getD sheet 1 0 ≡ orderVerdict → ⊥) → false ≡ isOrderSheet sheet
-sheet-other-verdict sheet l v o = rw (le-ltb _ _ l, eq-eqb _ _ v, ne-eqb _ _ o) refl
-
-pub sheet-by-length : (sheet : List ℕ) → sheetHeader ≤ length sheet → getD sheet 0 0 ≡ sheetVersion → getD sheet 1 0 ≡ orderVerdict
-    → eqb (length sheet) (sheetHeader + 2 * listedField sheet) ≡ isOrderSheet sheet
-sheet-by-length sheet l v o = rw (le-ltb _ _ l, eq-eqb _ _ v, eq-eqb _ _ o) refl
-
--- a sheet that passes them is as long as it says
-pub sheet-long : (sheet : List ℕ) → isOrderSheet sheet ≡ true → length sheet ≡ sheetHeader + 2 * listedField sheet
-sheet-long sheet e = go (ltb (length sheet) sheetHeader) (eqb (getD sheet 0 0) sheetVersion) (eqb (getD sheet 1 0) orderVerdict) e
-  where
-    go : (short version verdict : Bool)
-        → (if short then false else if not version then false else if not verdict then false else eqb (length sheet) (sheetHeader + 2 * listedField sheet)) ≡ true
-        → length sheet ≡ sheetHeader + 2 * listedField sheet
-    go true version verdict e = let z : _≡_ {A = ℕ} 0 1 = cc in absurd (omega arith)
-    go false false verdict e = let z : _≡_ {A = ℕ} 0 1 = cc in absurd (omega arith)
-    go false true false e = let z : _≡_ {A = ℕ} 0 1 = cc in absurd (omega arith)
-    go false true true e = eqb-true _ _ e
+use Rattle.replay.proofs.Forms.{sheet-long}
+use Rattle.replay.proofs.Placing.{kept-none}
 
 -- The first i of the k operations are placed.
 pub record Running (h : History) (sheet : List ℕ) (k i : ℕ) (p : Progress) (marks queue : List ℕ) : Type 0 where
@@ -66,14 +41,16 @@ module _ {h : History} {sheet marks queue : List ℕ} {k i : ℕ} {p : Progress}
 
   -- a step from here
   module _ (l : i < k) {o : ℕ} (e : o ≡ bigEndian sheet (sheetHeader + 2 * i) 2) {step : Step} {marks' queue' : List ℕ} (stepped : Stepped h o p marks queue step marks' queue') where
-    goes : Goes h (listedOn sheet) i marks' queue' step
-    goes = stepped .goes (listedOn sheet) i (omega (arith, whole)) (listed-at sheet i (omega (arith, running .listed)) ∙ sym e) (running .kept)
+    after : After h (listedOn sheet) i marks' queue' step
+    after = stepped .after (listedOn sheet) i (omega (arith, whole)) (listed-at sheet i (omega (arith, running .listed)) ∙ sym e) (running .kept)
 
     pub running-stops : step ≡ Illegal → Linearization h (listedOn sheet) → ⊥
-    running-stops s = rw s at goes
+    running-stops s = rw s at after
 
     pub running-next : {q : Progress} → step ≡ Placed q → Running h sheet k (i + 1) q marks' queue'
-    running-next s = record { listed = running .listed; long = running .long; within = omega arith; kept = rw s at goes }
+    running-next s = record { listed = running .listed; long = running .long; within = omega arith; kept = rw s at after }
 
-  pub running-ends : k ≤ i → Sound h (listedOn sheet) marks
-  running-ends l = let last : i ≡ length (listedOn sheet) = omega (arith, running .within, whole) in kept-all (rw last at (running .kept))
+  pub running-ends : k ≤ i → AllPlaced h (listedOn sheet) marks
+  running-ends l =
+      let last : i ≡ length (listedOn sheet) = omega (arith, running .within, whole) in
+      record { progress = p; queue = queue; kept = rw last at (running .kept) }

@@ -7,27 +7,12 @@ use mathlib.Core.List.{List, [], _∷_, _++_}
 use lib.ListN.{length, getD, set, take, length-set}
 use lib.Seq.{slice, slice-empty, slice-cons, length-slice, take-suc-set, drop-append-le, length-take-le}
 use Rattle.reader.specs.Log.{maxRecords}
-use Rattle.history.specs.History.{History, add, remove, emptyRemove}
-use Rattle.history.specs.Linearization.{Makes, puts, takes, meets}
+use Rattle.history.specs.History.{add, remove, emptyRemove}
+use Rattle.history.specs.Linearization.{puts, takes, meets}
 use Rattle.replay.specs.Trial.{waiting, Serves}
 use Rattle.replay.specs.declared.order.Progress.{Progress}
 use Rattle.replay.specs.declared.order.Step.the-variants.{Placed, Illegal}
-
--- what a queue is that an operation of a kind makes something of
-makes-remove : {h : History} {o : ℕ} {queue rest : List ℕ} → Makes h o queue rest → h .kind o ≡ remove → queue ≡ h .value o ∷ rest
-makes-remove (puts a) k = absurd (omega arith)
-makes-remove (takes r v) k = rw v refl
-makes-remove (meets e) k = absurd (omega arith)
-
-makes-empty : {h : History} {o : ℕ} {queue rest : List ℕ} → Makes h o queue rest → h .kind o ≡ emptyRemove → queue ≡ []
-makes-empty (puts a) k = absurd (omega arith)
-makes-empty (takes r v) k = absurd (omega arith)
-makes-empty (meets e) k = refl
-
-makes-kind : {h : History} {o : ℕ} {queue rest : List ℕ} → Makes h o queue rest → (add ≤ h .kind o) × (h .kind o ≤ emptyRemove)
-makes-kind (puts a) = omega arith
-makes-kind (takes r v) = omega arith
-makes-kind (meets e) = omega arith
+use Rattle.history.proofs.Queues.{makes-remove, makes-empty, makes-kind}
 
 module _ (kind value : ℕ) (p : Progress) (queue : List ℕ) (held : p .head ≤ p .tail) (room : p .tail < maxRecords) (sized : length queue ≡ maxRecords) where
   few : length (waiting p queue) ≡ p .tail - p .head

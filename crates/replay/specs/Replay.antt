@@ -1,12 +1,15 @@
 -- What replay answers for a log and a sheet. Document 01, "Turned down by what was handed in", 11, and demand 2: replay says yes
 -- to a log and an order exactly if that order is legal for that log.
 use Prim.Native.Nat.{ℕ, _+_, _*_}
-use mathlib.Core.Bool.{Bool, false, not}
+use mathlib.Core.Path.{_≡_}
+use mathlib.Core.Bool.{Bool, true, false, not}
 use mathlib.Core.List.{List}
 use lib.ListN.{length, getD}
 use lib.Dec.{ltb, eqb}
 use Rattle.reader.specs.Choice.{if_then_else_}
-use Rattle.reader.specs.Log.{Reading, readable, refused}
+use Rattle.reader.specs.Log.{Reading, readable, refused, readLog}
+use Rattle.reader.specs.declared.record.Record.{Record}
+use Rattle.history.specs.Linearization.{Linearization}
 use Rattle.history.specs.Operations.{historyOf}
 use Rattle.history.specs.Sheet.{sheetVersion, orderVerdict, sheetHeader, listedField, listedOn}
 use Rattle.history.proofs.Deciding.{linearization?}
@@ -34,3 +37,10 @@ abbrev pub replayed : Reading → List ℕ → Replayed
 replayed (refused number index) sheet = Refused number index
 replayed (readable records) sheet =
     if isOrderSheet sheet then says (linearization? (historyOf records) (listedOn sheet)) else Refused wrongSheet 0
+
+-- The sheet lists a legal order of the log: what a yes of replay means.
+pub record LegalOrder (log sheet : List ℕ) : Type 0 where
+  pub records : List Record
+  pub reads : readLog log ≡ readable records
+  pub form : isOrderSheet sheet ≡ true
+  pub legal : Linearization (historyOf records) (listedOn sheet)

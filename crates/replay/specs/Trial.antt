@@ -9,6 +9,7 @@ use lib.Seq.{slice}
 use Rattle.reader.specs.Log.{maxRecords}
 use Rattle.history.specs.History.{History, Returned, Precedes}
 use Rattle.history.specs.Linearization.{Makes, Fifo, placed, Linearization}
+use Rattle.history.specs.Table.{tabled, returnAt}
 use Rattle.replay.specs.declared.order.Progress.{Progress}
 use Rattle.replay.specs.declared.order.Step.{Step}
 use Rattle.replay.specs.declared.order.Step.the-variants.{Placed, Illegal}
@@ -65,33 +66,38 @@ pub record Kept (h : History) (order : List ℕ) (i : ℕ) (p : Progress) (marks
   pub above : (j : ℕ) → j < i → h .call (placed order j) ≤ p .latest
   pub met : 0 < p .latest → (j : ℕ) × (j < i) × (h .call (placed order j) ≡ p .latest)
   -- the order can be run exactly if the rest of it can be run from the queue
-  pub goes : Fifo h (drop i order) (waiting p queue) → Fifo h order []
-  pub comes : Fifo h order [] → Fifo h (drop i order) (waiting p queue)
+  pub rest-suffices : Fifo h (drop i order) (waiting p queue) → Fifo h order []
+  pub rest-follows : Fifo h order [] → Fifo h (drop i order) (waiting p queue)
 
 -- A step: the next operation of the order is placed, or the order is not legal.
-abbrev pub Goes : History → List ℕ → ℕ → List ℕ → List ℕ → Step → Type 0
-Goes h order i marks queue Illegal = Linearization h order → ⊥
-Goes h order i marks queue (Placed q) = Kept h order (i + 1) q marks queue
+abbrev pub After : History → List ℕ → ℕ → List ℕ → List ℕ → Step → Type 0
+After h order i marks queue Illegal = Linearization h order → ⊥
+After h order i marks queue (Placed q) = Kept h order (i + 1) q marks queue
 
 pub record Stepped (h : History) (o : ℕ) (p : Progress) (marks queue : List ℕ) (step : Step) (marks' queue' : List ℕ) : Type 0 where
-  pub goes : (order : List ℕ) (i : ℕ) → i < length order → placed order i ≡ o → Kept h order i p marks queue → Goes h order i marks' queue' step
+  pub after : (order : List ℕ) (i : ℕ) → i < length order → placed order i ≡ o → Kept h order i p marks queue → After h order i marks' queue' step
 
--- All that a legal order asks, but for the operations that it omits; those that it lists are marked.
-pub record Sound (h : History) (order marks : List ℕ) : Type 0 where
-  pub known : (j : ℕ) → j < length order → placed order j < h .count
-  pub once : (j k : ℕ) → j < k → k < length order → placed order j ≡ placed order k → ⊥
-  pub keeps : (j k : ℕ) → j < k → k < length order → Precedes h (placed order k) (placed order j) → ⊥
-  pub marked : (o : ℕ) → getD marks o 0 ≡ 1 → (j : ℕ) × (j < length order) × (placed order j ≡ o)
-  pub marks-all : (j : ℕ) → j < length order → getD marks (placed order j) 0 ≡ 1
-  pub runs : Fifo h order []
+-- the same for the history in a table, wherever its end is
+pub record StepsIn (count : ℕ) (table : List ℕ) (o : ℕ) (p : Progress) (marks queue : List ℕ) (step : Step) (marks' queue' : List ℕ) : Type 0 where
+  pub stepped : (end : ℕ) → Stepped (tabled count end table) o p marks queue step marks' queue'
+
+-- Every operation of the order is placed.
+pub record AllPlaced (h : History) (order marks : List ℕ) : Type 0 where
+  pub progress : Progress
+  pub queue : List ℕ
+  pub kept : Kept h order (length order) progress marks queue
 
 abbrev pub Tried : History → List ℕ → List ℕ → Bool → Type 0
-Tried h order marks true = Sound h order marks
+Tried h order marks true = AllPlaced h order marks
 Tried h order marks false = Linearization h order → ⊥
 
--- An operation is marked if it has returned; every one is.
-abbrev pub ReturnIsMarked : History → List ℕ → ℕ → Type 0
-ReturnIsMarked h marks o = Returned h o → getD marks o 0 ≡ 1
+pub record TriedIn (count : ℕ) (table order marks : List ℕ) (answer : Bool) : Type 0 where
+  pub tried : (end : ℕ) → Tried (tabled count end table) order marks answer
 
+-- An operation is marked if it returns below the end.
+abbrev pub ReturnIsMarked : ℕ → List ℕ → List ℕ → ℕ → Type 0
+ReturnIsMarked end table marks o = returnAt table o < end → getD marks o 0 ≡ 1
+
+-- Every returned operation is marked.
 abbrev pub AllMarked : History → List ℕ → Type 0
-AllMarked h marks = (o : ℕ) → o < h .count → ReturnIsMarked h marks o
+AllMarked h marks = (o : ℕ) → o < h .count → Returned h o → getD marks o 0 ≡ 1

@@ -10,7 +10,7 @@ ghost use Rattle.history.specs.Linearization.{Linearization};
 ghost use Rattle.history.specs.Sheet.{listedOn};
 ghost use Rattle.history.specs.Table.{tabled};
 ghost use Rattle.replay.specs.Replay.{isOrderSheet};
-ghost use Rattle.replay.specs.Trial.{Decides, Unmarked, Room, Serves, Stepped, Tried, ReturnIsMarked, AllMarked};
+ghost use Rattle.replay.specs.Trial.{Decides, Unmarked, Room, Serves, StepsIn, TriedIn, ReturnIsMarked, AllMarked};
 use crate::sheet::listed_on;
 use crate::sheet::operation_at;
 use history::operations::ADD;
@@ -92,14 +92,13 @@ fn later(a: u32, b: u32) -> u32
 fn place(
     table: &Operations,
     count: usize,
-    end: usize,
     o: usize,
     p: Progress,
     marks: &mut Marks,
     queue: &mut Queue,
 ) -> Step
     requires { ⌜ Room count p (now marks) (now queue) ⌝ }
-    ensures { λ s. ⌜ Stepped (tabled count end (now (table .entry))) o p (now (marks .entry)) (now (queue .entry)) s (now (marks .exit)) (now (queue .exit)) ⌝ }
+    ensures { λ s. ⌜ StepsIn count (now (table .entry)) o p (now (marks .entry)) (now (queue .entry)) s (now (marks .exit)) (now (queue .exit)) ⌝ }
 {
     if count <= o {
         return Step::Illegal;
@@ -121,10 +120,11 @@ fn place(
     serve(table[at + KIND], table[at + VALUE], q, queue)
 }
 
-// Places the operations that a sheet lists, one after the other, and marks them.
-fn place_all(table: &Operations, count: usize, end: usize, sheet: &[u8], marks: &mut Marks) -> bool
+// Places the operations that a sheet lists, one after the other, and marks them. Answers whether all of them could be placed; if
+// not, the order is not legal.
+fn place_all(table: &Operations, count: usize, sheet: &[u8], marks: &mut Marks) -> bool
     requires { ⌜ (count ≤ maxRecords) × (isOrderSheet (now sheet) ≡ true) × Unmarked (now marks) ⌝ }
-    ensures { λ r. ⌜ Tried (tabled count end (now (table .entry))) (listedOn (now (sheet .entry))) (now (marks .exit)) r ⌝ }
+    ensures { λ r. ⌜ TriedIn count (now (table .entry)) (listedOn (now (sheet .entry))) (now (marks .exit)) r ⌝ }
 {
     let mut queue = [0u32; MAX_RECORDS];
     let mut p = Progress {
@@ -136,7 +136,7 @@ fn place_all(table: &Operations, count: usize, end: usize, sheet: &[u8], marks: 
     let mut i = 0;
     while i < k {
         let o = operation_at(sheet, i);
-        match place(table, count, end, o, p, marks, &mut queue) {
+        match place(table, count, o, p, marks, &mut queue) {
             Step::Illegal => {
                 return false;
             }
@@ -150,9 +150,9 @@ fn place_all(table: &Operations, count: usize, end: usize, sheet: &[u8], marks: 
 }
 
 // Whether an operation is marked if it has returned; one that is pending may be left out.
-fn marked_if_returned(table: &Operations, count: usize, end: usize, o: usize, marks: &Marks) -> bool
+fn marked_if_returned(table: &Operations, end: usize, o: usize, marks: &Marks) -> bool
     requires { ⌜ (end ≤ maxRecords) × (o < maxRecords) ⌝ }
-    ensures { λ r. ⌜ Decides (ReturnIsMarked (tabled count end (now (table .entry))) (now (marks .entry)) o) r ⌝ }
+    ensures { λ r. ⌜ Decides (ReturnIsMarked end (now (table .entry)) (now (marks .entry)) o) r ⌝ }
 {
     if end as u32 <= table[o * FIELDS + RETURN] {
         return true;
@@ -170,7 +170,7 @@ fn all_marked(table: &Operations, count: usize, end: usize, marks: &Marks) -> bo
 {
     let mut o = 0;
     while o < count {
-        if !marked_if_returned(table, count, end, o, marks) {
+        if !marked_if_returned(table, end, o, marks) {
             return false;
         }
         o += 1;
@@ -184,7 +184,7 @@ pub fn is_linearization(table: &Operations, count: usize, end: usize, sheet: &[u
     ensures { λ r. ⌜ Decides (Linearization (tabled count end (now (table .entry))) (listedOn (now (sheet .entry)))) r ⌝ }
 {
     let mut marks = [0u8; MAX_RECORDS];
-    if !place_all(table, count, end, sheet, &mut marks) {
+    if !place_all(table, count, sheet, &mut marks) {
         return false;
     }
     all_marked(table, count, end, &marks)

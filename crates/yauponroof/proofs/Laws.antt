@@ -2,16 +2,17 @@
 -- refusal's number; the low 32 bits are what the call returns, or the refusal's record index.
 use Prim.Native.Nat.{ℕ, _/_, _%_, _≤_, _<_}
 use native.Mathlib.Omega.{arith}
-use mathlib.Core.Path.{_≡_}
+use mathlib.Core.Path.{_≡_, refl}
 use mathlib.Core.List.{List}
 use Rattle.reader.specs.Log.{readable, refused, readLog, checked, operations}
 use Rattle.reader.specs.Readable.{Within}
 use Rattle.reader.specs.declared.record.Record.{Record}
 use Rattle.reader.specs.declared.log.Checked.the-variants as check
 use Rattle.reader.proofs.Laws.{within, checked-refused, few-operations}
-use Rattle.replay.specs.Replay.{replayed}
+use Rattle.replay.specs.Replay.{replayed, LegalOrder}
+use Rattle.replay.specs.declared.replay.Replayed.{Replayed}
 use Rattle.replay.specs.declared.replay.Replayed.the-variants as replay
-use Rattle.replay.proofs.Laws.{replay-within}
+use Rattle.replay.proofs.Laws.{yes-is-legal, legal-is-yes, replay-within}
 use Rattle.yauponroof.specs.Answer.{refusalUnit, refusal, checkAnswer, replayAnswer}
 
 -- an answer that is accepted, with what it returns, and one that is refused
@@ -60,3 +61,15 @@ replay-turned-down log sheet number index e =
 
 pub replay-fits : (log sheet : List ℕ) {number index : ℕ} → replayed (readLog log) sheet ≡ replay.Refused number index → index < refusalUnit
 replay-fits log sheet e = let (some, few, small) = replay-within log sheet e in omega arith
+
+-- The answer is 1 exactly if the log is readable and the sheet lists a legal order of it.
+pub one-is-legal : (log sheet : List ℕ) → replayAnswer (replayed (readLog log) sheet) ≡ 1 → LegalOrder log sheet
+one-is-legal log sheet e = go (replayed (readLog log) sheet) refl e
+  where
+    go : (answer : Replayed) → replayed (readLog log) sheet ≡ answer → replayAnswer answer ≡ 1 → LegalOrder log sheet
+    go replay.Yes r e = yes-is-legal log sheet r
+    go replay.No r e = absurd (omega arith)
+    go (replay.Refused number index) r e = let (some, few, small) = replay-within log sheet r in absurd (omega arith)
+
+pub legal-is-one : (log sheet : List ℕ) → LegalOrder log sheet → replayAnswer (replayed (readLog log) sheet) ≡ 1
+legal-is-one log sheet order = rw (legal-is-yes log sheet order) refl

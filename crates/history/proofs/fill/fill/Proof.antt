@@ -4,19 +4,17 @@ use Rattle.history.proofs.fill.fill.Statement.{statement}
 use Rattle.history.proofs.fill.fill.Tie as tie
 use Prim.Native.Nat.{_-_}
 use borrow.Author.Needs.{needs}
-use mathlib.Core.Path.{refl}
 use native.Mathlib.Omega.{arith}
-use Rattle.reader.specs.Log.{maxRecords}
-use Rattle.history.proofs.Reaching.{Reached, zeros, reached-start, reached-found, reached-room, reached-next, reached-end}
+use Rattle.history.proofs.Reaching.{Reached, reached-start, reached-found, reached-room, reached-next, reached-end}
 
 abbrev Inv-loop : tie.InvT-loop
-Inv-loop log end table₀ clients₀ recent₀ at₀ count₀ i₀ table clients recent at count i = Reached log end clients recent table at count i
+Inv-loop log end table₀ callers₀ recent₀ at₀ count₀ i₀ table callers recent at count i = Reached log end table₀ callers recent table at count i
 
 abbrev μ-loop : tie.MeasureT-loop
-μ-loop log end table₀ clients₀ recent₀ at₀ count₀ i₀ table clients recent at count i = end - i
+μ-loop log end table₀ callers₀ recent₀ at₀ count₀ i₀ table callers recent at count i = end - i
 
 loop-holds : tie.Need-loop-holds Inv-loop μ-loop
-loop-holds c = reached-start (c .before .pre .0) _ _ _ refl refl (zeros maxRecords) (c .before .pre .1)
+loop-holds c = reached-start (c .before .pre .0) _ (c .before .pre .1)
 
 read-at-requires : tie.Need-read-at-requires Inv-loop μ-loop
 read-at-requires c κs = search needs
@@ -43,7 +41,7 @@ loop-again : tie.Need-loop-again Inv-loop μ-loop
 loop-again c = reached-next (c .before .before .before .before .before .before .before .before .before .loop .inv) (c .before .before .before .before .before .before .before .before .loop-test .taken) (c .before .before .before .before .before .before .before .read-at .ensures) (c .before .before .before .before .before .record .given .1) (c .note .ensures)
 
 returns-2 : tie.Need-returns-2 Inv-loop μ-loop
-returns-2 c = reached-end (c .before .loop .inv) (c .loop-test .left) _
+returns-2 c = reached-end (c .before .loop .inv) (c .loop-test .left)
 
 pub fill-spec : {M : Type 1} → statement M
 fill-spec =

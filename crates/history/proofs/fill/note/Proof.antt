@@ -16,7 +16,7 @@ enum-known-event : tie.Need-enum-known-event
 enum-known-event c = search needs
 
 begin-requires : tie.Need-begin-requires
-begin-requires c κs = search needs
+begin-requires c κs = (c .before .before .before .before .before .before .pre .count-small, omega arith, c .before .before .before .before .before .before .pre .leads-down .slots _)
 
 cast-enter : tie.Need-cast-enter
 cast-enter c = search needs
@@ -31,7 +31,7 @@ enum-told : tie.Need-enum-told
 enum-told c = search needs
 
 begin-requires-2 : tie.Need-begin-requires-2
-begin-requires-2 c κs = search needs
+begin-requires-2 c κs = (c .before .before .before .before .before .pre .count-small, omega (arith, c .before .before .before .before .struct-known .given), c .before .before .before .before .before .pre .leads-down .slots _)
 
 cast-enter-2 : tie.Need-cast-enter-2
 cast-enter-2 c = search needs
@@ -46,7 +46,7 @@ enum-told-2 : tie.Need-enum-told-2
 enum-told-2 c = search needs
 
 latest-of-requires : tie.Need-latest-of-requires
-latest-of-requires c κs = c .before .before .before .before .before .pre .recent-small _
+latest-of-requires c κs = c .before .before .before .before .before .pre .leads-down
 
 mul-value : tie.Need-mul-value
 mul-value c = search needs
@@ -79,7 +79,7 @@ enum-known-event-2 : tie.Need-enum-known-event-2
 enum-known-event-2 c = search needs
 
 latest-of-requires-2 : tie.Need-latest-of-requires-2
-latest-of-requires-2 c κs = c .before .before .before .before .before .before .pre .recent-small _
+latest-of-requires-2 c κs = c .before .before .before .before .before .before .pre .leads-down
 
 outcome-of-requires : tie.Need-outcome-of-requires
 outcome-of-requires c κs = search needs
@@ -100,10 +100,10 @@ enter-requires-4 : tie.Need-enter-requires-4
 enter-requires-4 c κs = search needs
 
 returns : tie.Need-returns
-returns c = noted-call _ _ _ _ _ _ _ _ _ _ _ (c .before .before .before .before .before .before .event .given .1) refl (c .before .before .before .before .before .before .before .before .before .pre .count-small) (c .before .before .begin .ensures .0) (c .before .before .begin .ensures .1) (c .enter .ensures)
+returns c = noted-call _ _ _ _ _ _ _ _ _ _ _ (c .before .before .before .before .before .before .event .given .1) refl (c .before .before .before .before .before .before .before .before .before .pre .count-small) (c .before .before .begin .ensures) (c .enter .ensures)
 
 returns-2 : tie.Need-returns-2
-returns-2 c = noted-call _ _ _ _ _ _ _ _ _ _ _ (c .before .before .before .before .before .enum-told .given .1) refl (c .before .before .before .before .before .before .before .before .pre .count-small) (c .before .before .begin2 .ensures .0) (c .before .before .begin2 .ensures .1) (c .enter2 .ensures)
+returns-2 c = noted-call _ _ _ _ _ _ _ _ _ _ _ (c .before .before .before .before .before .enum-told .given .1) refl (c .before .before .before .before .before .before .before .before .pre .count-small) (c .before .before .begin2 .ensures) (c .enter2 .ensures)
 
 returns-3 : tie.Need-returns-3
 returns-3 c = noted-return _ _ _ _ _ _ _ _ _ (c .before .before .before .before .before .before .before .enum-told2 .given .1) (λ e. omega arith) refl _ _ _ (c .before .before .before .before .latest-of .ensures)

@@ -5,11 +5,11 @@ use Prim.Native.Nat.{ℕ, _-_, _<_, _≤_}
 use native.Mathlib.Omega.{arith}
 use Rattle.history.specs.Table.{tabled}
 use Rattle.replay.specs.Trial.{ReturnIsMarked}
-use Rattle.replay.proofs.Placing.{up-to}
+use Rattle.history.proofs.Basics.{up-to}
 use borrow.Author.Tests.{not-true, not-false}
 
 abbrev Inv-loop : tie.InvT-loop
-Inv-loop table count end marks o₀ o = (o ≤ count) × ((r : ℕ) → r < o → ReturnIsMarked (tabled count end table) marks r)
+Inv-loop table count end marks o₀ o = (o ≤ count) × ((r : ℕ) → r < o → ReturnIsMarked end table marks r)
 
 abbrev μ-loop : tie.MeasureT-loop
 μ-loop table count end marks o₀ o = count - o

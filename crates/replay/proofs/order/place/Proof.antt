@@ -2,16 +2,17 @@
 use borrow.Author.Needs.{needs}
 use Rattle.replay.proofs.order.place.Statement.{statement}
 use Rattle.replay.proofs.order.place.Tie as tie
-use Rattle.replay.proofs.Placing.{room-left, stepped-unknown, stepped-twice, stepped-late, stepped}
+use Rattle.replay.proofs.Marking.{room-left}
+use Rattle.replay.proofs.Placing.{stepped-unknown, stepped-twice, stepped-late, stepped}
 
 returns : tie.Need-returns
-returns c = stepped-unknown (c .if1 .taken)
+returns c = record { stepped = λ end. stepped-unknown (c .if1 .taken) }
 
 element-copy-out-if2 : tie.Need-element-copy-out-if2
 element-copy-out-if2 c = search needs
 
 returns-2 : tie.Need-returns-2
-returns-2 c = stepped-twice (c .if2 .taken)
+returns-2 c = record { stepped = λ end. stepped-twice (c .if2 .taken) }
 
 mul-at : tie.Need-mul-at
 mul-at c = search needs
@@ -26,7 +27,7 @@ element-copy-out-if3 : tie.Need-element-copy-out-if3
 element-copy-out-if3 c = search needs
 
 returns-3 : tie.Need-returns-3
-returns-3 c = stepped-late (c .if3 .taken)
+returns-3 c = record { stepped = λ end. stepped-late (c .if3 .taken) }
 
 element-write-marks : tie.Need-element-write-marks
 element-write-marks c = search needs
@@ -65,7 +66,7 @@ serve-requires : tie.Need-serve-requires
 serve-requires c κs = (c .before .before .before .before .before .before .before .before .before .before .pre .held, room-left (c .before .before .before .before .before .before .before .before .before .before .pre) (c .before .before .before .before .before .before .before .before .before .if1 .left) (c .before .before .before .before .before .before .before .if2 .left), c .before .before .before .before .before .before .before .before .before .before .pre .queue-sized)
 
 returns-4 : tie.Need-returns-4
-returns-4 c = stepped _ _ _ _ _ _ (c .before .before .before .before .before .before .before .before .before .before .if1 .left) (c .before .before .before .before .before .before .before .before .if2 .left) (c .before .before .before .before .before .before .if3 .left) (c .before .before .before .before .later .ensures .0) (c .before .before .before .before .later .ensures .1) (c .before .before .before .before .later .ensures .2) (c .serve .ensures)
+returns-4 c = record { stepped = λ end. stepped _ _ _ _ _ _ (c .before .before .before .before .before .before .before .before .before .before .if1 .left) (c .before .before .before .before .before .before .before .before .if2 .left) (c .before .before .before .before .before .before .if3 .left) (c .before .before .before .before .later .ensures .0) (c .before .before .before .before .later .ensures .1) (c .before .before .before .before .later .ensures .2) (c .serve .ensures) }
 
 pub place-spec : {M : Type 1} → statement M
 place-spec =

@@ -5,7 +5,7 @@ use Rattle.replay.proofs.sheet.is_order_sheet.Tie as tie
 use native.Mathlib.Omega.{arith}
 use mathlib.Core.Path.{refl}
 use borrow.Author.Tests.{lt-ltb}
-use Rattle.replay.proofs.Running.{sheet-other-version, sheet-other-verdict, sheet-by-length}
+use Rattle.replay.proofs.Forms.{sheet-other-version, sheet-other-verdict, sheet-by-length}
 
 returns : tie.Need-returns
 returns c = rw (lt-ltb _ _ (c .if1 .taken)) refl
