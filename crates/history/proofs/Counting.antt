@@ -74,5 +74,5 @@ different f (suc k) (suc n) small apart = go (lowest (λ i. f i ≡ n) (λ i. �
               (λ j m l h. apart (skip (s .at) j) (skip (s .at) m) (skip-rises (s .at) j m l) (skip-below (s .at) m k h)),
         )
 
-pub order-short : (h : History) (order : List ℕ) → Linearization h order → length order ≤ h .count
-order-short h order legal = different (placed order) (length order) (h .count) (legal .known) (legal .once)
+pub linearization-short : (h : History) (order : List ℕ) → Linearization h order → length order ≤ h .count
+linearization-short h order legal = different (placed order) (length order) (h .count) (legal .known) (legal .once)

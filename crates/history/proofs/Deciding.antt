@@ -6,7 +6,7 @@ use mathlib.Core.Path.{_≡_}
 use mathlib.Core.Logic.{Dec·and, Dec·not}
 use mathlib.Core.List.{List, [], _∷_, _++_}
 use lib.ListN.{length}
-use Rattle.history.specs.History.{History, add, remove, emptyRemove}
+use Rattle.history.specs.History.{History, add, remove, emptyRemove, Returned, Precedes}
 use Rattle.history.specs.Linearization.{Makes, puts, takes, meets, Fifo, done, then, placed, Listed, Linearization}
 use Rattle.history.proofs.Basics.{up-to}
 use Rattle.history.proofs.Queues.{makes-one, fifo-first}
@@ -82,15 +82,25 @@ fifo? h (o ∷ order) queue = go (makes? h o queue) (λ queue'. fifo? h order qu
     go (yes made) d = rest? (made .1) (d (made .0))
     go (no n) d = no (λ run. n (fifo-first run .0, fifo-first run .1))
 
+-- whether an order lists every returned operation
+unfoldable pub every? : (h : History) (order : List ℕ) → Dec ((o : ℕ) → o < h .count → Returned h o → Listed order o)
+unfolding all-below? implies? listed? decLt
+every? h order = all-below? (λ o. implies? (decLt _ _) (listed? order o)) (h .count)
+
+-- whether no operation comes before one that precedes it
+unfoldable pub keeps? : (h : History) (order : List ℕ) → Dec ((j : ℕ) → j < length order → (i : ℕ) → i < j → Precedes h (placed order j) (placed order i) → ⊥)
+unfolding all-below? decLt Dec·not
+keeps? h order = all-below? (λ j. all-below? (λ i. Dec·not (decLt _ _)) j) (length order)
+
 -- whether a list is a legal order of a history
 unfoldable pub linearization? : (h : History) (order : List ℕ) → Dec (Linearization h order)
-unfolding all-below? implies? equivalent? listed? makes? fifo? ℕ-discrete decLt Dec·and Dec·not
+unfolding all-below? equivalent? every? keeps? makes? fifo? ℕ-discrete decLt Dec·and Dec·not
 linearization? h order =
     equivalent?
     (λ p. record { known = p .0; every = p .1 .0; once = λ i j l h. p .1 .1 .0 j h i l; keeps = λ i j l h. p .1 .1 .1 .0 j h i l; runs = p .1 .1 .1 .1 })
     (λ l. (l .known, (l .every, (λ j h i k. l .once i j k h, (λ j h i k. l .keeps i j k h, l .runs)))))
     (Dec·and (all-below? (λ i. decLt (placed order i) (h .count)) (length order))
-    (Dec·and (all-below? (λ o. implies? (decLt (h .ret o) (h .end)) (listed? order o)) (h .count))
+    (Dec·and (every? h order)
     (Dec·and (all-below? (λ j. all-below? (λ i. Dec·not (ℕ-discrete (placed order i) (placed order j))) j) (length order))
-    (Dec·and (all-below? (λ j. all-below? (λ i. Dec·not (decLt (h .ret (placed order j)) (h .call (placed order i)))) j) (length order))
+    (Dec·and (keeps? h order)
     (fifo? h order [])))))

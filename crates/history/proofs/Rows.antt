@@ -9,7 +9,7 @@ use Rattle.reader.specs.Record.{lengthOf, eventOf, encode, decodeAt}
 use Rattle.reader.specs.Log.{ofOthers, pendingCalls, pendingKind, earliestRemove, addedValues, isIn, eventFault, fault, scan, readPartial, operations, encodeAll, Reading, readable, readLog, encodeLog}
 use Rattle.history.specs.History.{History}
 use Rattle.history.specs.Operations.{callIndex, firstOf, positionOf, historyOf}
-use Rattle.history.specs.Runs.{recordsFrom, recordsOf, Row, Holds, Each, Expected, order, Judged, runs, NoneLegal, illegalOrders}
+use Rattle.history.specs.Runs.{recordsFrom, recordsOf, Row, Holds, Each, Expected, order, Judged, runs, NoneLegal, noLinearizations}
 use Rattle.history.proofs.Deciding.{linearization?}
 
 -- whether each of a list has a property
@@ -50,6 +50,6 @@ pub runs-hold : Each (Holds Judged) runs
 unfolding decide each? judged? history reading
 runs-hold = rows-hold judged? runs refl refl
 
-pub illegal-orders-hold : Each (Holds NoneLegal) illegalOrders
+pub no-linearizations-hold : Each (Holds NoneLegal) noLinearizations
 unfolding decide each? none-legal? history reading
-illegal-orders-hold = rows-hold none-legal? illegalOrders refl refl
+no-linearizations-hold = rows-hold none-legal? noLinearizations refl refl

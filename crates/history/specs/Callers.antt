@@ -9,12 +9,16 @@ use Rattle.reader.specs.Log.{maxRecords}
 abbrev pub slotOf : ℕ → ℕ
 slotOf client = client % maxRecords
 
+-- how many client numbers there are
+abbrev pub clientCount : ℕ
+clientCount = 65536
+
 -- what the code keeps of the caller of each operation: its client, and a link to the operation before it that shares its slot
 abbrev pub clientAt : List ℕ → ℕ → ℕ
-clientAt callers o = getD callers o 0 % 65536
+clientAt callers o = getD callers o 0 % clientCount
 
 abbrev pub linkAt : List ℕ → ℕ → ℕ
-linkAt callers o = getD callers o 0 / 65536
+linkAt callers o = getD callers o 0 / clientCount
 
 -- n is 1 above the latest of the first `count` operations that share a slot, and 0 if none does.
 pub record Top (callers : List ℕ) (count slot n : ℕ) : Type 0 where
@@ -43,6 +47,6 @@ pub record Found (callers recent : List ℕ) (client o : ℕ) : Type 0 where
 
 -- The caller of operation o is noted.
 pub record Begun (callers recent : List ℕ) (o client : ℕ) (callers' recent' : List ℕ) : Type 0 where
-  pub small : client < 65536
-  pub callers-are : callers' ≡ set callers o (getD recent (slotOf client) 0 * 65536 + client)
+  pub small : client < clientCount
+  pub callers-are : callers' ≡ set callers o (getD recent (slotOf client) 0 * clientCount + client)
   pub recent-are : recent' ≡ set recent (slotOf client) (o + 1)

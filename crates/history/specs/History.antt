@@ -36,7 +36,7 @@ Returned h o = h .ret o < h .end
 abbrev pub Precedes : History → ℕ → ℕ → Type 0
 Precedes h o p = h .ret o < h .call p
 
--- What holds of the history of every readable log, whatever the positions of its records are.
+-- What holds of the history of every readable log, for any positions that have the laws of proofs/Positions.antt.
 pub record Lawful (h : History) : Type 0 where
   pub kinds : (o : ℕ) → o < h .count → (add ≤ h .kind o) × (h .kind o ≤ emptyRemove)
   -- an operation is called before it returns

@@ -1,5 +1,6 @@
 -- Document 01, "Runs": "A7( calls add of 7, A7) returns it; R( calls remove, R7) and R-) return it. Ticks rise by one; each
--- operation has a client of its own." Two tables: the runs marked * with their verdicts, and lists that are no legal orders of a run.
+-- operation has a client of its own." Two tables: the runs marked * whose verdict is an order, and lists that are
+-- no legal orders of a run.
 use Prim.Native.Nat.{ℕ, _+_}
 use mathlib.Core.Path.{_≡_}
 use mathlib.Core.List.{List, [], _∷_}
@@ -69,8 +70,8 @@ runs =
 abbrev pub NoneLegal : History → List (List ℕ) → Type 0
 NoneLegal h lists = Each (λ listed. Linearization h listed → ⊥) lists
 
-abbrev pub illegalOrders : List (Row (List (List ℕ)))
-illegalOrders =
+abbrev pub noLinearizations : List (Row (List (List ℕ)))
+noLinearizations =
     -- A7( A7) R( R7): the remove is left out; there is no operation 2
     record { run = (0, CallAdd 7) ∷ (0, ReturnAdd) ∷ (1, CallRemove) ∷ (1, ReturnRemove (Value 7)) ∷ []; says = (0 ∷ []) ∷ (0 ∷ 1 ∷ 2 ∷ []) ∷ [] } ∷
     -- R( A7( R7) A7): 7 is not there yet; the add is listed twice

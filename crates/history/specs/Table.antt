@@ -49,12 +49,13 @@ pub record Agree (h k : History) : Type 0 where
 abbrev pub Untouched : ℕ → List ℕ → List ℕ → Type 0
 Untouched count before after = (o f : ℕ) → count ≤ o → f < fields → getD after (o * fields + f) 0 ≡ getD before (o * fields + f) 0
 
--- The table holds the history of a log that is readable, and nothing else of it has changed; for a log that is refused it is as it was.
+-- The table holds the history of these records, and nothing else of it has changed.
 pub record HistoryHeld (records : List Record) (before after : List ℕ) : Type 0 where
   pub sized : length after ≡ tableLength
   pub agree : Agree (tabled (operations records) (length records) after) (historyOf records)
   pub untouched : Untouched (operations records) before after
 
+-- the table after a log was read: it holds its history, or is as it was if the log is refused
 abbrev pub Tabulated : Reading → List ℕ → List ℕ → Type 0
 Tabulated (readable records) before after = HistoryHeld records before after
 Tabulated (refused number index) before after = after ≡ before
@@ -72,7 +73,8 @@ pub record Entered (table : List ℕ) (o kind value call ret : ℕ) (table' : Li
   pub others : (p f : ℕ) → f < fields → (p ≡ o → ⊥) → getD table' (p * fields + f) 0 ≡ getD table (p * fields + f) 0
   pub sized : length table' ≡ length table
 
--- The entry of operation o, with what this event of its return says and this position of it.
+-- The entry of operation o, with what this event of its return says and this position of it. Where there is no return yet, the event is
+-- a call of remove, which says nothing of one.
 abbrev pub Told : List Record → List ℕ → ℕ → Event → ℕ → Type 0
 Told records table o return ret =
     Entry table o (kindBy (recordOf records (callIndex records o) .event) return) (valueBy (recordOf records (callIndex records o) .event) return) (callIndex records o) ret

@@ -3,7 +3,7 @@ ghost use mathlib.Core.Path.{_≡_};
 ghost use Prim.Native.Nat.{_≤_, _<_};
 ghost use lib.ListN.{getD};
 ghost use Rattle.reader.specs.Log.{maxRecords};
-ghost use Rattle.history.specs.Callers.{slotOf, LeadsDown, Found, Begun};
+ghost use Rattle.history.specs.Callers.{slotOf, clientCount, LeadsDown, Found, Begun};
 use reader::format::MAX_RECORDS;
 
 // For each operation its client and, times CLIENTS, a number 1 above the operation before it whose client shares its slot, or 0.
@@ -24,7 +24,7 @@ fn slot_of(client: u32) -> usize
 
 // Notes the client of a new operation.
 pub fn begin(callers: &mut Callers, recent: &mut Recent, o: usize, client: u32)
-    requires { ⌜ (o < maxRecords) × (client < 65536) × (getD (now recent) (slotOf client) 0 ≤ maxRecords) ⌝ }
+    requires { ⌜ (o < maxRecords) × (client < clientCount) × (getD (now recent) (slotOf client) 0 ≤ maxRecords) ⌝ }
     ensures { λ _. ⌜ Begun (now (callers .entry)) (now (recent .entry)) o client (now (callers .exit)) (now (recent .exit)) ⌝ }
 {
     let slot = slot_of(client);

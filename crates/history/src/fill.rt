@@ -64,8 +64,8 @@ fn enter(table: &mut Operations, o: usize, kind: u32, value: u32, call: u32, ret
     table[at + RETURN] = returned;
 }
 
-// Notes the record with an index: a call begins an operation, which returns at the end so far, and a return ends its client's
-// latest operation. Answers how many operations there are then.
+// Notes the record with an index: a call begins an operation, which is entered as returning at the end until its return is read, and a
+// return ends its client's latest operation. Answers how many operations there are then.
 fn note(
     r: Record,
     index: usize,

@@ -22,7 +22,7 @@ Within (refused number index) = (1 ≤ number) × (number ≤ removePending) × 
 abbrev pub Bytes : List ℕ → Type 0
 Bytes log = (i : ℕ) → getD log i 0 < 256
 
--- the record with an index; behind the last one it is of no interest
+-- the record with an index; behind the last one a call of remove, which tells of no return
 abbrev pub recordOf : List Record → ℕ → Record
 recordOf records i = getD records i (record { client = 0; tick = 0; event = CallRemove })
 

@@ -14,10 +14,10 @@ use Rattle.reader.proofs.Laws.{within, few-operations}
 use Rattle.history.specs.Linearization.{Linearization}
 use Rattle.history.specs.Operations.{historyOf}
 use Rattle.history.specs.Sheet.{orderVerdict, sheetHeader, sheetOf, listedField, listedOn}
-use Rattle.history.proofs.Counting.{order-short}
+use Rattle.history.proofs.Counting.{linearization-short}
 use Rattle.history.proofs.Deciding.{linearization?}
 use Rattle.history.proofs.Sheets.{sheet-length, sheet-lists, listed-length}
-use Rattle.replay.specs.Replay.{wrongSheet, isOrderSheet, replayed, LegalOrder}
+use Rattle.replay.specs.Replay.{wrongSheet, isOrderSheet, replayed, ListsLinearization, ListsOther}
 use Rattle.replay.proofs.Forms.{sheet-by-length}
 use Rattle.replay.specs.declared.replay.Replayed.the-variants.{Yes, No, Refused}
 
@@ -39,19 +39,19 @@ found records sheet = go (isOrderSheet sheet) refl
     go false form = formless form (rw form refl)
 
 -- Replay says yes exactly if the log is readable and the sheet lists a legal order of it.
-pub yes-is-legal : (log sheet : List ℕ) → replayed (readLog log) sheet ≡ Yes → LegalOrder log sheet
+pub yes-is-legal : (log sheet : List ℕ) → replayed (readLog log) sheet ≡ Yes → ListsLinearization log sheet
 yes-is-legal log sheet e = go (readLog log) refl e
   where
-    go : (reading : Reading) → readLog log ≡ reading → replayed reading sheet ≡ Yes → LegalOrder log sheet
+    go : (reading : Reading) → readLog log ≡ reading → replayed reading sheet ≡ Yes → ListsLinearization log sheet
     go (refused number index) reads e = let z : _≡_ {A = ℕ} 0 1 = cc in absurd (omega arith)
     go (readable records) reads e = by (found records sheet)
       where
-        by : Found records sheet → LegalOrder log sheet
+        by : Found records sheet → ListsLinearization log sheet
         by (legal form l r) = record { records = records; reads = reads; form = form; legal = l }
         by (other form n r) = let z : _≡_ {A = ℕ} 0 1 = cc in absurd (omega arith)
         by (formless form r) = let z : _≡_ {A = ℕ} 0 1 = cc in absurd (omega arith)
 
-pub legal-is-yes : (log sheet : List ℕ) → LegalOrder log sheet → replayed (readLog log) sheet ≡ Yes
+pub legal-is-yes : (log sheet : List ℕ) → ListsLinearization log sheet → replayed (readLog log) sheet ≡ Yes
 legal-is-yes log sheet order = rw (order .reads) (by (found (order .records) sheet))
   where
     by : Found (order .records) sheet → replayed (readable (order .records)) sheet ≡ Yes
@@ -59,25 +59,29 @@ legal-is-yes log sheet order = rw (order .reads) (by (found (order .records) she
     by (other form n r) = absurd (n (order .legal))
     by (formless form r) = let z : true ≡ false = sym (order .form) ∙ form in let w : _≡_ {A = ℕ} 0 1 = cc in absurd (omega arith)
 
+-- It says no exactly if the log is readable and the sheet has the form of an order, but what it lists is none that is legal.
+pub no-is-other : (log sheet : List ℕ) → replayed (readLog log) sheet ≡ No → ListsOther log sheet
+no-is-other log sheet e = go (readLog log) refl e
+  where
+    go : (reading : Reading) → readLog log ≡ reading → replayed reading sheet ≡ No → ListsOther log sheet
+    go (refused number index) reads e = let z : _≡_ {A = ℕ} 0 1 = cc in absurd (omega arith)
+    go (readable records) reads e = by (found records sheet)
+      where
+        by : Found records sheet → ListsOther log sheet
+        by (legal form l r) = let z : _≡_ {A = ℕ} 0 1 = cc in absurd (omega arith)
+        by (other form n r) = record { records = records; reads = reads; form = form; not-legal = n }
+        by (formless form r) = let z : _≡_ {A = ℕ} 0 1 = cc in absurd (omega arith)
+
+pub other-is-no : (log sheet : List ℕ) → ListsOther log sheet → replayed (readLog log) sheet ≡ No
+other-is-no log sheet order = rw (order .reads) (by (found (order .records) sheet))
+  where
+    by : Found (order .records) sheet → replayed (readable (order .records)) sheet ≡ No
+    by (legal form l r) = absurd (order .not-legal l)
+    by (other form n r) = r
+    by (formless form r) = let z : true ≡ false = sym (order .form) ∙ form in let w : _≡_ {A = ℕ} 0 1 = cc in absurd (omega arith)
+
+-- Of a readable log it refuses exactly a sheet of another form, under 11 and with index 0.
 module _ (log sheet : List ℕ) (records : List Record) (reads : readLog log ≡ readable records) where
-  -- It says no exactly if the log is readable and the sheet, of the right form, lists another order.
-  pub no-is-other : replayed (readLog log) sheet ≡ No → (isOrderSheet sheet ≡ true) × (Linearization (historyOf records) (listedOn sheet) → ⊥)
-  no-is-other e = let e' : replayed (readable records) sheet ≡ No = rw reads at e in by e' (found records sheet)
-    where
-      by : replayed (readable records) sheet ≡ No → Found records sheet → (isOrderSheet sheet ≡ true) × (Linearization (historyOf records) (listedOn sheet) → ⊥)
-      by e (legal form l r) = let z : _≡_ {A = ℕ} 0 1 = cc in absurd (omega arith)
-      by e (other form n r) = (form, n)
-      by e (formless form r) = let z : _≡_ {A = ℕ} 0 1 = cc in absurd (omega arith)
-
-  pub other-is-no : isOrderSheet sheet ≡ true → (Linearization (historyOf records) (listedOn sheet) → ⊥) → replayed (readLog log) sheet ≡ No
-  other-is-no f n = rw reads (by (found records sheet))
-    where
-      by : Found records sheet → replayed (readable records) sheet ≡ No
-      by (legal form l r) = absurd (n l)
-      by (other form m r) = r
-      by (formless form r) = let z : true ≡ false = sym f ∙ form in let w : _≡_ {A = ℕ} 0 1 = cc in absurd (omega arith)
-
-  -- It refuses exactly a sheet of another form, under 11 and with index 0.
   pub refused-is-form : {number index : ℕ} → replayed (readLog log) sheet ≡ Refused number index → (isOrderSheet sheet ≡ false) × (number ≡ wrongSheet) × (index ≡ 0)
   refused-is-form {number} {index} e = let e' : replayed (readable records) sheet ≡ Refused number index = rw reads at e in by e' (found records sheet)
     where
@@ -111,16 +115,22 @@ module _ (order : List ℕ) (few : length order < 65536) (small : (i : ℕ) → 
       legal-is-yes log (sheetOf orderVerdict order) (record { records = records; reads = reads; form = written-form; legal = rw (sheet-lists orderVerdict order few small) l })
 
 -- Every legal order of a log fits on a sheet, whoever made it, and replay says yes to it.
-pub legal-order-replays : (log : List ℕ) (records : List Record) → readLog log ≡ readable records → (order : List ℕ) → Linearization (historyOf records) order
-    → replayed (readLog log) (sheetOf orderVerdict order) ≡ Yes
-legal-order-replays log records e order l = written-legal order (omega (arith, few, order-short (historyOf records) order l)) (λ i. small i (decLt i (length order))) log records e l
+pub linearization-replays : (log : List ℕ) (records : List Record) → readLog log ≡ readable records → (order : List ℕ) → Linearization (historyOf records) order
+    → (listedOn (sheetOf orderVerdict order) ≡ order) × (replayed (readLog log) (sheetOf orderVerdict order) ≡ Yes)
+linearization-replays log records e order l = (sheet-lists orderVerdict order short numbers, written-legal order short numbers log records e l)
   where
     few : operations records ≤ maxRecords
-    few = let short : Within (readable records) = rw e at (within log) in omega (arith, few-operations records)
+    few = let read : Within (readable records) = rw e at (within log) in omega (arith, few-operations records)
+
+    short : length order < 65536
+    short = omega (arith, few, linearization-short (historyOf records) order l)
 
     small : (i : ℕ) → Dec (i < length order) → getD order i 0 < 65536
     small i (yes b) = omega (arith, few, l .known i b)
     small i (no b) = rw (List·getD-eq-default order 0 {n = i} (omega arith)) (omega arith)
+
+    numbers : (i : ℕ) → getD order i 0 < 65536
+    numbers i = small i (decLt i (length order))
 
 -- a refusal has a number from 1 to 11 and an index of at most 1,024
 pub replay-within : (log sheet : List ℕ) {number index : ℕ} → replayed (readLog log) sheet ≡ Refused number index → (1 ≤ number) × (number ≤ wrongSheet) × (index ≤ maxRecords)

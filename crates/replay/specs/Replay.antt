@@ -19,7 +19,8 @@ use Rattle.replay.specs.declared.replay.Replayed.the-variants.{Yes, No, 
 abbrev pub wrongSheet : ℕ
 wrongSheet = 11
 
--- 11: "the sheet has under 4 bytes, version not 1, verdict not 0, or length not 4 + 2k"
+-- Whether a sheet has the form of an order. It has not, which is 11, if "the sheet has under 4 bytes, version not 1, verdict not 0, or
+-- length not 4 + 2k".
 abbrev pub isOrderSheet : List ℕ → Bool
 isOrderSheet sheet =
     if ltb (length sheet) sheetHeader then false else
@@ -38,9 +39,16 @@ replayed (refused number index) sheet = Refused number index
 replayed (readable records) sheet =
     if isOrderSheet sheet then says (linearization? (historyOf records) (listedOn sheet)) else Refused wrongSheet 0
 
--- The sheet lists a legal order of the log: what a yes of replay means.
-pub record LegalOrder (log sheet : List ℕ) : Type 0 where
+-- The log is readable and the sheet lists a legal order of it: what a yes of replay means.
+pub record ListsLinearization (log sheet : List ℕ) : Type 0 where
   pub records : List Record
   pub reads : readLog log ≡ readable records
   pub form : isOrderSheet sheet ≡ true
   pub legal : Linearization (historyOf records) (listedOn sheet)
+
+-- The log is readable and the sheet lists an order that is not legal for it: what a no means.
+pub record ListsOther (log sheet : List ℕ) : Type 0 where
+  pub records : List Record
+  pub reads : readLog log ≡ readable records
+  pub form : isOrderSheet sheet ≡ true
+  pub not-legal : Linearization (historyOf records) (listedOn sheet) → ⊥

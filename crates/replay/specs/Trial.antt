@@ -42,12 +42,13 @@ pub record Room (count : ℕ) (p : Progress) (marks queue : List ℕ) : Type 0 w
   pub held : p .head ≤ p .tail
   pub room : p .tail ≤ total count marks
 
--- What an operation of this kind and value makes of the queue: nothing if it cannot be run there.
+-- Operation o is run on the queue, or cannot be.
 abbrev pub Served : History → ℕ → Progress → List ℕ → List ℕ → Step → Type 0
 Served h o p queue queue' Illegal = (rest : List ℕ) → Makes h o (waiting p queue) rest → ⊥
 Served h o p queue queue' (Placed q) =
     Makes h o (waiting p queue) (waiting q queue') × (q .latest ≡ p .latest) × (q .head ≤ q .tail) × (q .tail ≤ p .tail + 1)
 
+-- the same for every operation of this kind and value
 pub record Serves (kind value : ℕ) (p : Progress) (queue : List ℕ) (step : Step) (queue' : List ℕ) : Type 0 where
   pub sized : length queue' ≡ maxRecords
   pub served : (h : History) (o : ℕ) → h .kind o ≡ kind → h .value o ≡ value → Served h o p queue queue' step
@@ -87,10 +88,12 @@ pub record AllPlaced (h : History) (order marks : List ℕ) : Type 0 where
   pub queue : List ℕ
   pub kept : Kept h order (length order) progress marks queue
 
+-- all of the order is placed, or the order is not legal
 abbrev pub Tried : History → List ℕ → List ℕ → Bool → Type 0
 Tried h order marks true = AllPlaced h order marks
 Tried h order marks false = Linearization h order → ⊥
 
+-- the same for the history in a table, wherever its end is
 pub record TriedIn (count : ℕ) (table order marks : List ℕ) (answer : Bool) : Type 0 where
   pub tried : (end : ℕ) → Tried (tabled count end table) order marks answer
 

@@ -9,10 +9,10 @@ use Rattle.reader.specs.Readable.{Within}
 use Rattle.reader.specs.declared.record.Record.{Record}
 use Rattle.reader.specs.declared.log.Checked.the-variants as check
 use Rattle.reader.proofs.Laws.{within, checked-refused, few-operations}
-use Rattle.replay.specs.Replay.{replayed, LegalOrder}
+use Rattle.replay.specs.Replay.{replayed, ListsLinearization, ListsOther}
 use Rattle.replay.specs.declared.replay.Replayed.{Replayed}
 use Rattle.replay.specs.declared.replay.Replayed.the-variants as replay
-use Rattle.replay.proofs.Laws.{yes-is-legal, legal-is-yes, replay-within}
+use Rattle.replay.proofs.Laws.{yes-is-legal, legal-is-yes, no-is-other, other-is-no, replay-within}
 use Rattle.yauponroof.specs.Answer.{refusalUnit, refusal, checkAnswer, replayAnswer}
 
 -- an answer that is accepted, with what it returns, and one that is refused
@@ -63,13 +63,25 @@ pub replay-fits : (log sheet : List ℕ) {number index : ℕ} → replayed (read
 replay-fits log sheet e = let (some, few, small) = replay-within log sheet e in omega arith
 
 -- The answer is 1 exactly if the log is readable and the sheet lists a legal order of it.
-pub one-is-legal : (log sheet : List ℕ) → replayAnswer (replayed (readLog log) sheet) ≡ 1 → LegalOrder log sheet
+pub one-is-legal : (log sheet : List ℕ) → replayAnswer (replayed (readLog log) sheet) ≡ 1 → ListsLinearization log sheet
 one-is-legal log sheet e = go (replayed (readLog log) sheet) refl e
   where
-    go : (answer : Replayed) → replayed (readLog log) sheet ≡ answer → replayAnswer answer ≡ 1 → LegalOrder log sheet
+    go : (answer : Replayed) → replayed (readLog log) sheet ≡ answer → replayAnswer answer ≡ 1 → ListsLinearization log sheet
     go replay.Yes r e = yes-is-legal log sheet r
     go replay.No r e = absurd (omega arith)
     go (replay.Refused number index) r e = let (some, few, small) = replay-within log sheet r in absurd (omega arith)
 
-pub legal-is-one : (log sheet : List ℕ) → LegalOrder log sheet → replayAnswer (replayed (readLog log) sheet) ≡ 1
+pub legal-is-one : (log sheet : List ℕ) → ListsLinearization log sheet → replayAnswer (replayed (readLog log) sheet) ≡ 1
 legal-is-one log sheet order = rw (legal-is-yes log sheet order) refl
+
+-- and 0 exactly if it is readable and what the sheet lists is none.
+pub zero-is-other : (log sheet : List ℕ) → replayAnswer (replayed (readLog log) sheet) ≡ 0 → ListsOther log sheet
+zero-is-other log sheet e = go (replayed (readLog log) sheet) refl e
+  where
+    go : (answer : Replayed) → replayed (readLog log) sheet ≡ answer → replayAnswer answer ≡ 0 → ListsOther log sheet
+    go replay.Yes r e = absurd (omega arith)
+    go replay.No r e = no-is-other log sheet r
+    go (replay.Refused number index) r e = let (some, few, small) = replay-within log sheet r in absurd (omega arith)
+
+pub other-is-zero : (log sheet : List ℕ) → ListsOther log sheet → replayAnswer (replayed (readLog log) sheet) ≡ 0
+other-is-zero log sheet order = rw (other-is-no log sheet order) refl
