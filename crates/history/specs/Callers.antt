@@ -41,6 +41,7 @@ pub record Latest (callers : List ℕ) (count client o : ℕ) : Type 0 where
   pub found : (p : ℕ) → p < count → clientAt callers p ≡ client → (o < count) × (clientAt callers o ≡ client)
   pub later : (p : ℕ) → o < p → p < count → clientAt callers p ≡ client → ⊥
 
+-- o is what the search for this client's latest operation comes to, however many operations are linked.
 pub record Found (callers recent : List ℕ) (client o : ℕ) : Type 0 where
   pub small : o < maxRecords
   pub latest : (count : ℕ) → Linked callers recent count → Latest callers count client o

@@ -37,8 +37,10 @@ pub enum Step {
     Illegal,
 }
 
+// For each operation 1 if it is placed, or 0.
 type Marks = [u8; MAX_RECORDS];
 
+// The values that were put in, of which those from `head` up to `tail` wait.
 type Queue = [u32; MAX_RECORDS];
 
 // Runs an operation of this kind and value on the queue.
@@ -100,12 +102,15 @@ fn place(
     requires { ⌜ Room count p (now marks) (now queue) ⌝ }
     ensures { λ s. ⌜ StepsIn count (now (table .entry)) o p (now (marks .entry)) (now (queue .entry)) s (now (marks .exit)) (now (queue .exit)) ⌝ }
 {
+    // There is no such operation.
     if count <= o {
         return Step::Illegal;
     }
+    // It was placed before.
     if marks[o] == 1 {
         return Step::Illegal;
     }
+    // It precedes one that was placed.
     let latest = p.latest;
     let at = o * FIELDS;
     if table[at + RETURN] < latest {
