@@ -15,7 +15,7 @@ use Rattle.reader.proofs.Laws.{called}
 use Rattle.history.specs.Operations.{callIndex, returnIndex, kindBy, valueBy, positionOf, returnPosition}
 use Rattle.history.specs.Callers.{clientAt, Begun, Latest}
 use Rattle.history.specs.Table.{tableLength, Entered, Told, Filled, HistoryHeld}
-use Rattle.history.proofs.Numbering.{call-of, index-of-rank, rank-step, ranks-rise, ranks-below, called-before, calls-rise, return-is-next, next-is-return, next-of-one}
+use Rattle.history.proofs.Numbering.{call-of, same-call, index-of-rank, rank-step, ranks-rise, ranks-below, called-before, calls-rise, return-is-next, next-is-return, next-of-one}
 use Rattle.history.proofs.Events.{leaves-call, asks-call, call-leaves}
 use Rattle.history.proofs.Entries.{entry-stays}
 use Rattle.history.proofs.Basics.{zeros}
@@ -156,7 +156,7 @@ filled-return {records = records} log n h {count} {old} {callers} {recent} {tabl
         (rw e at (return-is-next records (callIndex records p) (omega arith)))
         (rw (ends .returns) at (return-is-next records (callIndex records o) (omega (arith, ends .returns)))) in
         let few : (q : ℕ) → q < count → q < operations records = λ q m. omega (arith, filled .counted, ranks-below records n) in
-        sym (call-of records p (few p l) .rank) ∙ ap (λ i. operations (take i records)) same ∙ call-of records o (few o (ends .below)) .rank
+        same-call records p o (few p l) (few o (ends .below)) same
 
     back : (p : ℕ) → p < count → returnIndex records (callIndex records p) < n + 1 → Dec (p ≡ o) → Dec (returnIndex records (callIndex records p) < n)
         → Told records table' p (recordOf records (returnIndex records (callIndex records p)) .event) (returnIndex records (callIndex records p))

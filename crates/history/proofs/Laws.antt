@@ -4,7 +4,7 @@ use native.Mathlib.Omega.{arith}
 use native.Mathlib.Decide.{decLt}
 use mathlib.Core.Path.{_≡_, refl, sym, ap, _∙_}
 use mathlib.Core.List.{List}
-use lib.ListN.{length, take}
+use lib.ListN.{length}
 use borrow.Author.Tests.{lt-ltb, le-ltb}
 use Rattle.reader.specs.Log.{isCall, operations}
 use Rattle.reader.specs.Readable.{recordOf, asks, leaves, ReadableLog}
@@ -15,7 +15,7 @@ use Rattle.reader.specs.declared.record.Event.the-variants.{CallAdd, CallRemove
 use Rattle.reader.specs.declared.record.Record.{Record}
 use Rattle.history.specs.History.{add, emptyRemove, Returned, Lawful}
 use Rattle.history.specs.Operations.{callIndex, returnIndex, positionOf, historyOf}
-use Rattle.history.proofs.Numbering.{Called, call-of, calls-rise, return-is-next, next-is-return}
+use Rattle.history.proofs.Numbering.{Called, call-of, same-call, calls-rise, return-is-next, next-is-return}
 use Rattle.history.proofs.Events.{asks-call, leaves-call, asks-remove}
 use Rattle.history.proofs.Positions.{position-within, position-apart, position-next, position-calls}
 
@@ -121,9 +121,7 @@ module _ {log : List ℕ} {records : List Record} (readable : ReadableLog log re
       go : Dec (callOf a < callOf b) → Dec (callOf b < callOf a) → a ≡ b
       go (yes l) d = absurd (readable .partial .once (callOf a) (callOf b) (historyOf records .value b) l (call-of records b k .below) in-a in-b)
       go (no l) (yes m) = absurd (readable .partial .once (callOf b) (callOf a) (historyOf records .value b) m (call-of records a h .below) in-b in-a)
-      go (no l) (no m) =
-          let same : callOf a ≡ callOf b = omega arith in
-          sym (call-of records a h .rank) ∙ ap (λ i. operations (take i records)) same ∙ call-of records b k .rank
+      go (no l) (no m) = same-call records a b h k (omega arith)
 
 -- the history of a readable log
 pub history-lawful : {log : List ℕ} {records : List Record} → ReadableLog log records → Lawful (historyOf records)

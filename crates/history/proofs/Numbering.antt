@@ -51,6 +51,10 @@ call-of (r ∷ records) o h = go (decLt o (isCall (r .event))) (call-of records 
       rank = rw (index-later r records o (omega arith)) (omega (arith, rest .rank));
     }
 
+-- operations with the same call record are the same
+pub same-call : (records : List Record) (o p : ℕ) → o < operations records → p < operations records → callIndex records o ≡ callIndex records p → o ≡ p
+same-call records o p h k e = sym (call-of records o h .rank) ∙ ap (λ i. operations (take i records)) e ∙ call-of records p k .rank
+
 -- and back: the number of a call is how many calls stand before it
 pub index-of-rank : (records : List Record) (i : ℕ) → i < length records → isCall (recordOf records i .event) ≡ 1 → callIndex records (operations (take i records)) ≡ i
 unfolding operations

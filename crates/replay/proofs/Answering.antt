@@ -1,7 +1,7 @@
 -- From what the parts of replay find out to its answer.
 use Prim.Native.Nat.{ℕ, _≤_}
 use native.Mathlib.Omega.{arith}
-use mathlib.Core.Path.{_≡_, refl, sym, _∙_}
+use mathlib.Core.Path.{_≡_, sym, _∙_}
 use mathlib.Core.Bool.{true, false}
 use mathlib.Core.List.{List}
 use lib.ListN.{length}
@@ -18,14 +18,14 @@ use Rattle.history.specs.Operations.{historyOf}
 use Rattle.history.specs.Sheet.{listedOn}
 use Rattle.history.specs.Table.{tabled, Agree, Tabulated}
 use Rattle.history.proofs.Agreeing.{agree-sym, agree-linearization}
-use Rattle.history.proofs.Deciding.{linearization?}
-use Rattle.replay.specs.Replay.{isOrderSheet, wrongSheet, says, replayed}
+use Rattle.replay.specs.Replay.{isOrderSheet, wrongSheet, replayed}
+use Rattle.replay.proofs.Laws.{legal-is-yes, other-is-no, form-is-refused, log-refused-first}
 use Rattle.replay.specs.declared.replay.Replayed.the-variants.{Yes, No, Refused}
 
 -- the log is refused
 pub log-refused : (log sheet : List ℕ) {answer : Checked} {number index : ℕ} → answer ≡ checked (readLog log) → answer ≡ check.Refused number index
     → Refused number index ≡ replayed (readLog log) sheet
-log-refused log sheet e f = rw (checked-refused (readLog log) (sym e ∙ f)) refl
+log-refused log sheet {number = number} {index = index} e f = sym (log-refused-first log sheet number index (checked-refused (readLog log) (sym e ∙ f)))
 
 tabled-same : (table : List ℕ) (h : History) {count m end n : ℕ} → count ≡ m → end ≡ n → Agree (tabled count end table) h → Agree (tabled m n table) h
 tabled-same table h o l agree = rw (← o, ← l) agree
@@ -42,7 +42,7 @@ module _ (log sheet : List ℕ) {answer : Checked} {n m : ℕ} (e : answer ≡ c
 
   -- the sheet is refused
   pub sheet-refused : isOrderSheet sheet ≡ false → Refused wrongSheet 0 ≡ replayed (readLog log) sheet
-  sheet-refused s = rw (read .1, s) refl
+  sheet-refused s = sym (form-is-refused log sheet (read .0) (read .1) s)
 
   -- the order is tried
   module _ (s : isOrderSheet sheet ≡ true) (before table : List ℕ) (tabulated : Tabulated (readLog log) before table) where
@@ -53,15 +53,7 @@ module _ (log sheet : List ℕ) {answer : Checked} {n m : ℕ} (e : answer ≡ c
         tabled-same table (historyOf records) o l (held .agree)
 
     pub order-legal : Linearization (tabled m n table) (listedOn sheet) → Yes ≡ replayed (readLog log) sheet
-    order-legal legal = rw (read .1, s) (go (linearization? (historyOf (read .0)) (listedOn sheet)))
-      where
-        go : (d : Dec (Linearization (historyOf (read .0)) (listedOn sheet))) → Yes ≡ says d
-        go (yes l) = refl
-        go (no n) = absurd (n (agree-linearization agree (listedOn sheet) legal))
+    order-legal l = sym (legal-is-yes log sheet (record { records = read .0; reads = read .1; form = s; legal = agree-linearization agree (listedOn sheet) l }))
 
     pub order-not-legal : (Linearization (tabled m n table) (listedOn sheet) → ⊥) → No ≡ replayed (readLog log) sheet
-    order-not-legal n = rw (read .1, s) (go (linearization? (historyOf (read .0)) (listedOn sheet)))
-      where
-        go : (d : Dec (Linearization (historyOf (read .0)) (listedOn sheet))) → No ≡ says d
-        go (yes l) = absurd (n (agree-linearization (agree-sym agree) (listedOn sheet) l))
-        go (no m) = refl
+    order-not-legal d = sym (other-is-no log sheet (record { records = read .0; reads = read .1; form = s; not-legal = λ l. d (agree-linearization (agree-sym agree) (listedOn sheet) l) }))

@@ -22,19 +22,19 @@ use Rattle.replay.proofs.Forms.{sheet-by-length}
 use Rattle.replay.specs.declared.replay.Replayed.the-variants.{Yes, No, Refused}
 
 -- what replay finds of a readable log and a sheet
-data Found (records : List Record) (sheet : List ℕ) : Type 0 where
-  legal : isOrderSheet sheet ≡ true → Linearization (historyOf records) (listedOn sheet) → replayed (readable records) sheet ≡ Yes → Found records sheet
-  other : isOrderSheet sheet ≡ true → (Linearization (historyOf records) (listedOn sheet) → ⊥) → replayed (readable records) sheet ≡ No → Found records sheet
-  formless : isOrderSheet sheet ≡ false → replayed (readable records) sheet ≡ Refused wrongSheet 0 → Found records sheet
+data Outcome (records : List Record) (sheet : List ℕ) : Type 0 where
+  legal : isOrderSheet sheet ≡ true → Linearization (historyOf records) (listedOn sheet) → replayed (readable records) sheet ≡ Yes → Outcome records sheet
+  other : isOrderSheet sheet ≡ true → (Linearization (historyOf records) (listedOn sheet) → ⊥) → replayed (readable records) sheet ≡ No → Outcome records sheet
+  formless : isOrderSheet sheet ≡ false → replayed (readable records) sheet ≡ Refused wrongSheet 0 → Outcome records sheet
 
-found : (records : List Record) (sheet : List ℕ) → Found records sheet
-found records sheet = go (isOrderSheet sheet) refl
+outcome : (records : List Record) (sheet : List ℕ) → Outcome records sheet
+outcome records sheet = go (isOrderSheet sheet) refl
   where
-    by : isOrderSheet sheet ≡ true → (d : Dec (Linearization (historyOf records) (listedOn sheet))) → linearization? (historyOf records) (listedOn sheet) ≡ d → Found records sheet
+    by : isOrderSheet sheet ≡ true → (d : Dec (Linearization (historyOf records) (listedOn sheet))) → linearization? (historyOf records) (listedOn sheet) ≡ d → Outcome records sheet
     by form (yes l) e = legal form l (rw (form, e) refl)
     by form (no n) e = other form n (rw (form, e) refl)
 
-    go : (form : Bool) → isOrderSheet sheet ≡ form → Found records sheet
+    go : (form : Bool) → isOrderSheet sheet ≡ form → Outcome records sheet
     go true form = by form (linearization? (historyOf records) (listedOn sheet)) refl
     go false form = formless form (rw form refl)
 
@@ -44,17 +44,17 @@ yes-is-legal log sheet e = go (readLog log) refl e
   where
     go : (reading : Reading) → readLog log ≡ reading → replayed reading sheet ≡ Yes → ListsLinearization log sheet
     go (refused number index) reads e = let z : _≡_ {A = ℕ} 0 1 = cc in absurd (omega arith)
-    go (readable records) reads e = by (found records sheet)
+    go (readable records) reads e = by (outcome records sheet)
       where
-        by : Found records sheet → ListsLinearization log sheet
+        by : Outcome records sheet → ListsLinearization log sheet
         by (legal form l r) = record { records = records; reads = reads; form = form; legal = l }
         by (other form n r) = let z : _≡_ {A = ℕ} 0 1 = cc in absurd (omega arith)
         by (formless form r) = let z : _≡_ {A = ℕ} 0 1 = cc in absurd (omega arith)
 
 pub legal-is-yes : (log sheet : List ℕ) → ListsLinearization log sheet → replayed (readLog log) sheet ≡ Yes
-legal-is-yes log sheet order = rw (order .reads) (by (found (order .records) sheet))
+legal-is-yes log sheet order = rw (order .reads) (by (outcome (order .records) sheet))
   where
-    by : Found (order .records) sheet → replayed (readable (order .records)) sheet ≡ Yes
+    by : Outcome (order .records) sheet → replayed (readable (order .records)) sheet ≡ Yes
     by (legal form l r) = r
     by (other form n r) = absurd (n (order .legal))
     by (formless form r) = let z : true ≡ false = sym (order .form) ∙ form in let w : _≡_ {A = ℕ} 0 1 = cc in absurd (omega arith)
@@ -65,17 +65,17 @@ no-is-other log sheet e = go (readLog log) refl e
   where
     go : (reading : Reading) → readLog log ≡ reading → replayed reading sheet ≡ No → ListsOther log sheet
     go (refused number index) reads e = let z : _≡_ {A = ℕ} 0 1 = cc in absurd (omega arith)
-    go (readable records) reads e = by (found records sheet)
+    go (readable records) reads e = by (outcome records sheet)
       where
-        by : Found records sheet → ListsOther log sheet
+        by : Outcome records sheet → ListsOther log sheet
         by (legal form l r) = let z : _≡_ {A = ℕ} 0 1 = cc in absurd (omega arith)
         by (other form n r) = record { records = records; reads = reads; form = form; not-legal = n }
         by (formless form r) = let z : _≡_ {A = ℕ} 0 1 = cc in absurd (omega arith)
 
 pub other-is-no : (log sheet : List ℕ) → ListsOther log sheet → replayed (readLog log) sheet ≡ No
-other-is-no log sheet order = rw (order .reads) (by (found (order .records) sheet))
+other-is-no log sheet order = rw (order .reads) (by (outcome (order .records) sheet))
   where
-    by : Found (order .records) sheet → replayed (readable (order .records)) sheet ≡ No
+    by : Outcome (order .records) sheet → replayed (readable (order .records)) sheet ≡ No
     by (legal form l r) = absurd (order .not-legal l)
     by (other form n r) = r
     by (formless form r) = let z : true ≡ false = sym (order .form) ∙ form in let w : _≡_ {A = ℕ} 0 1 = cc in absurd (omega arith)
@@ -83,9 +83,9 @@ other-is-no log sheet order = rw (order .reads) (by (found (order .records) shee
 -- Of a readable log it refuses exactly a sheet of another form, under 11 and with index 0.
 module _ (log sheet : List ℕ) (records : List Record) (reads : readLog log ≡ readable records) where
   pub refused-is-form : {number index : ℕ} → replayed (readLog log) sheet ≡ Refused number index → (isOrderSheet sheet ≡ false) × (number ≡ wrongSheet) × (index ≡ 0)
-  refused-is-form {number} {index} e = let e' : replayed (readable records) sheet ≡ Refused number index = rw reads at e in by e' (found records sheet)
+  refused-is-form {number} {index} e = let e' : replayed (readable records) sheet ≡ Refused number index = rw reads at e in by e' (outcome records sheet)
     where
-      by : replayed (readable records) sheet ≡ Refused number index → Found records sheet → (isOrderSheet sheet ≡ false) × (number ≡ wrongSheet) × (index ≡ 0)
+      by : replayed (readable records) sheet ≡ Refused number index → Outcome records sheet → (isOrderSheet sheet ≡ false) × (number ≡ wrongSheet) × (index ≡ 0)
       by e (legal form l r) = let z : _≡_ {A = ℕ} 0 1 = cc in absurd (omega arith)
       by e (other form n r) = let z : _≡_ {A = ℕ} 0 1 = cc in absurd (omega arith)
       by e (formless form r) = (form, cc, cc)
@@ -107,8 +107,8 @@ module _ (order : List ℕ) (few : length order < 65536) (small : (i : ℕ) → 
 
   pub written-yes : (log : List ℕ) → replayed (readLog log) (sheetOf orderVerdict order) ≡ Yes → (records : List Record) × (readLog log ≡ readable records) × Linearization (historyOf records) order
   written-yes log e =
-      let found = yes-is-legal log (sheetOf orderVerdict order) e in
-      (found .records, found .reads, rw (sheet-lists orderVerdict order few small) at (found .legal))
+      let listed = yes-is-legal log (sheetOf orderVerdict order) e in
+      (listed .records, listed .reads, rw (sheet-lists orderVerdict order few small) at (listed .legal))
 
   pub written-legal : (log : List ℕ) (records : List Record) → readLog log ≡ readable records → Linearization (historyOf records) order → replayed (readLog log) (sheetOf orderVerdict order) ≡ Yes
   written-legal log records reads l =
