@@ -49,7 +49,7 @@ skip-below i j k l = go (skip-is i j)
     go (inr a) = omega (arith, a .1)
 
 -- either n is not among them, or without it there is one less, all below n
-different : (f : ℕ → ℕ) (k n : ℕ) → ((i : ℕ) → i < k → f i < n) → ((i j : ℕ) → i < j → j < k → f i ≡ f j → ⊥) → k ≤ n
+pub different : (f : ℕ → ℕ) (k n : ℕ) → ((i : ℕ) → i < k → f i < n) → ((i j : ℕ) → i < j → j < k → f i ≡ f j → ⊥) → k ≤ n
 different f zero n small apart = omega arith
 different f (suc k) zero small apart = absurd (omega (arith, small 0 (omega arith)))
 different f (suc k) (suc n) small apart = go (lowest (λ i. f i ≡ n) (λ i. ℕ-discrete (f i) n) (suc k)) (different f (suc k) n) (λ i. different (λ j. f (skip i j)) k n)

@@ -1,4 +1,4 @@
--- The two tables of runs hold. What is read and what is right is computed, for a whole table at once.
+-- Tables of runs hold. What is read and what is right is computed, for a whole table at once.
 use Prim.Native.Nat.{ℕ}
 use mathlib.Core.Path.{_≡_, refl}
 use mathlib.Core.Bool.{true, decide, decide-iff}
@@ -9,7 +9,7 @@ use Rattle.reader.specs.Record.{lengthOf, eventOf, encode, decodeAt}
 use Rattle.reader.specs.Log.{ofOthers, pendingCalls, pendingKind, earliestRemove, addedValues, isIn, eventFault, fault, scan, readPartial, operations, encodeAll, Reading, readable, readLog, encodeLog}
 use Rattle.history.specs.History.{History}
 use Rattle.history.specs.Operations.{callIndex, firstOf, positionOf, historyOf}
-use Rattle.history.specs.Runs.{recordsFrom, recordsOf, Row, Holds, Each, Expected, order, Judged, runs, NoneLegal, noLinearizations}
+use Rattle.history.specs.Runs.{recordsFrom, recordsOf, Row, Holds, Each, AllLegal, linearizations, NoneLegal, noLinearizations}
 use Rattle.history.proofs.Deciding.{linearization?}
 
 -- whether each of a list has a property
@@ -18,10 +18,10 @@ unfolding Dec·and
 each? d [] = yes tt
 each? d (x ∷ xs) = Dec·and (d x) (each? d xs)
 
--- whether what is expected is right, and whether none of some lists is a legal order
-judged? : (h : History) (expected : Expected) → Dec (Judged h expected)
-unfolding linearization?
-judged? h (order listed) = linearization? h listed
+-- whether all of some lists are legal orders, and whether none is
+all-legal? : (h : History) (lists : List (List ℕ)) → Dec (AllLegal h lists)
+unfolding each? linearization?
+all-legal? h lists = each? (linearization? h) lists
 
 none-legal? : (h : History) (lists : List (List ℕ)) → Dec (NoneLegal h lists)
 unfolding each? linearization? Dec·not
@@ -46,9 +46,9 @@ rows-hold {A} {Right} right? rows read right = go rows read (decide-iff (each? (
     go [] read right = tt
     go (row ∷ rows) read right = (record { read = cc; right = right .0 }, go rows (cc) (right .1))
 
-pub runs-hold : Each (Holds Judged) runs
-unfolding decide each? judged? history reading
-runs-hold = rows-hold judged? runs refl refl
+pub linearizations-hold : Each (Holds AllLegal) linearizations
+unfolding decide each? all-legal? history reading
+linearizations-hold = rows-hold all-legal? linearizations refl refl
 
 pub no-linearizations-hold : Each (Holds NoneLegal) noLinearizations
 unfolding decide each? none-legal? history reading

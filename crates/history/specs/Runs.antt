@@ -1,6 +1,6 @@
 -- Document 01, "Runs": "A7( calls add of 7, A7) returns it; R( calls remove, R7) and R-) return it. Ticks rise by one; each
--- operation has a client of its own." Two tables: the runs marked * whose verdict is an order, and lists that are
--- no legal orders of a run.
+-- operation has a client of its own." What a table of runs is, and two tables: lists that are legal orders of a run, and
+-- lists that are none. The runs that the document marks * are a table of the crate violations, which knows the patterns.
 use Prim.Native.Nat.{ℕ, _+_}
 use mathlib.Core.Path.{_≡_}
 use mathlib.Core.List.{List, [], _∷_}
@@ -40,30 +40,18 @@ abbrev pub Each : {A : Type 0} → (A → Type 0) → List A → Type 0
 Each P [] = Unit {0}
 Each P (x ∷ xs) = P x × Each P xs
 
--- the verdict that document 01 gives for a run
-pub data Expected : Type 0 where
-  order : List ℕ → Expected
+-- All of the lists are legal orders of a history.
+abbrev pub AllLegal : History → List (List ℕ) → Type 0
+AllLegal h lists = Each (λ listed. Linearization h listed) lists
 
--- What document 01 says of a run's verdict is right for a history.
-abbrev pub Judged : History → Expected → Type 0
-Judged h (order listed) = Linearization h listed
-
-abbrev pub runs : List (Row Expected)
-runs =
-    -- no records: order, k = 0
-    record { run = []; says = order [] } ∷
-    -- A7( A7) R( R7): order 0 1
-    record { run = (0, CallAdd 7) ∷ (0, ReturnAdd) ∷ (1, CallRemove) ∷ (1, ReturnRemove (Value 7)) ∷ []; says = order (0 ∷ 1 ∷ []) } ∷
-    -- R( A7( R7) A7): order 1 0
-    record { run = (0, CallRemove) ∷ (1, CallAdd 7) ∷ (0, ReturnRemove (Value 7)) ∷ (1, ReturnAdd) ∷ []; says = order (1 ∷ 0 ∷ []) } ∷
-    -- A7( R( R-): order 1
-    record { run = (0, CallAdd 7) ∷ (1, CallRemove) ∷ (1, ReturnRemove Empty) ∷ []; says = order (1 ∷ []) } ∷
-    -- A1( A2( A1) A2) R( R2): order 1 0 2
-    record { run = (0, CallAdd 1) ∷ (1, CallAdd 2) ∷ (0, ReturnAdd) ∷ (1, ReturnAdd) ∷ (2, CallRemove) ∷ (2, ReturnRemove (Value 2)) ∷ []; says = order (1 ∷ 0 ∷ 2 ∷ []) } ∷
-    -- A1( A1) A2( A2) Ra( Rb( Ra2) Rb1): order 0 1 3 2
-    record { run = (0, CallAdd 1) ∷ (0, ReturnAdd) ∷ (1, CallAdd 2) ∷ (1, ReturnAdd) ∷ (2, CallRemove) ∷ (3, CallRemove) ∷ (2, ReturnRemove (Value 2)) ∷ (3, ReturnRemove (Value 1)) ∷ []; says = order (0 ∷ 1 ∷ 3 ∷ 2 ∷ []) } ∷
-    -- A1( A1) Ra( A2( Rb( A2) Rb1) Ra-) R( R2): order 0 3 1 2 4
-    record { run = (0, CallAdd 1) ∷ (0, ReturnAdd) ∷ (1, CallRemove) ∷ (2, CallAdd 2) ∷ (3, CallRemove) ∷ (2, ReturnAdd) ∷ (3, ReturnRemove (Value 1)) ∷ (1, ReturnRemove Empty) ∷ (4, CallRemove) ∷ (4, ReturnRemove (Value 2)) ∷ []; says = order (0 ∷ 3 ∷ 1 ∷ 2 ∷ 4 ∷ []) } ∷
+abbrev pub linearizations : List (Row (List (List ℕ)))
+linearizations =
+    -- A7( R( R7): the open add is listed, since its value was removed
+    record { run = (0, CallAdd 7) ∷ (1, CallRemove) ∷ (1, ReturnRemove (Value 7)) ∷ []; says = (0 ∷ 1 ∷ []) ∷ [] } ∷
+    -- A1(: an open add may be left out or listed
+    record { run = (0, CallAdd 1) ∷ []; says = [] ∷ (0 ∷ []) ∷ [] } ∷
+    -- A1( A2( A1) A2): neither add precedes the other
+    record { run = (0, CallAdd 1) ∷ (1, CallAdd 2) ∷ (0, ReturnAdd) ∷ (1, ReturnAdd) ∷ []; says = (0 ∷ 1 ∷ []) ∷ (1 ∷ 0 ∷ []) ∷ [] } ∷
     []
 
 -- None of the lists is a legal order of a history.

@@ -1,4 +1,4 @@
--- Bounded searches: the lowest or the highest number below a bound that has a property, or that none has it.
+-- Bounded searches, in a form that computes: the lowest or the highest number below a bound that has a property, or that none has it.
 use Prim.Native.Nat.{ℕ, zero, suc, _<_}
 use native.Mathlib.Omega.{arith}
 use native.Mathlib.Decide.{decLt}
@@ -17,7 +17,7 @@ pub record Lowest (P : ℕ → Type 0) (n : ℕ) : Type 0 where
 abbrev pub None : (ℕ → Type 0) → ℕ → Type 0
 None P n = (m : ℕ) → m < n → P m → ⊥
 
-pub lowest : (P : ℕ → Type 0) → ((m : ℕ) → Dec (P m)) → (n : ℕ) → Lowest P n ⊎ None P n
+unfoldable pub lowest : (P : ℕ → Type 0) → ((m : ℕ) → Dec (P m)) → (n : ℕ) → Lowest P n ⊎ None P n
 lowest P d zero = inr (λ m h p. absurd (omega arith))
 lowest P d (suc n) = go (lowest P d n) (d n)
   where
@@ -36,7 +36,7 @@ pub record Highest (P : ℕ → Type 0) (n : ℕ) : Type 0 where
   pub holds : P at
   pub none-higher : (m : ℕ) → at < m → m < n → P m → ⊥
 
-pub highest : (P : ℕ → Type 0) → ((m : ℕ) → Dec (P m)) → (n : ℕ) → Highest P n ⊎ None P n
+unfoldable pub highest : (P : ℕ → Type 0) → ((m : ℕ) → Dec (P m)) → (n : ℕ) → Highest P n ⊎ None P n
 highest P d zero = inr (λ m h p. absurd (omega arith))
 highest P d (suc n) = go (d n) (highest P d n)
   where

@@ -1,0 +1,106 @@
+-- Where no pattern occurs, there is a legal order.
+use Prim.Native.Nat.{ℕ, zero, suc, _+_, _≤_, _<_}
+use native.Mathlib.Omega.{arith}
+use native.Mathlib.Decide.{decLt}
+use mathlib.Core.Path.{_≡_, sym}
+use mathlib.Core.Logic.{_⊎_, inl, inr, Dec·and}
+use mathlib.Core.List.{List, [], _∷_}
+use lib.ListN.{length, length-append}
+use Rattle.reader.proofs.Search.{Lowest, None, lowest}
+use Rattle.history.specs.History.{History, add, remove, emptyRemove, Precedes, Lawful}
+use Rattle.history.specs.Linearization.{placed}
+use Rattle.history.proofs.Counting.{different}
+use Rattle.violations.specs.Violations.{Is, RemoveOf, Gap, Reaches, removed, never, Covered, AllCovered, Occurs, unknown, twice, early, stuck, overtaken, falseEmpty, NoViolation}
+use Rattle.violations.specs.Verdict.{JudgedOrder}
+use Rattle.violations.specs.Search.{Matched, Sound, Left, Searched}
+use Rattle.violations.proofs.Lists.{snoc}
+use Rattle.violations.proofs.Chains.{is?, remove-of?, reach-of, false-empty, LastUncovered, uncovered-gap}
+use Rattle.violations.proofs.Placing.{search-starts, search-places, search-ends}
+use Rattle.violations.proofs.Progress.{left?, search-goes-on}
+
+module _ {h : History} (lawful : Lawful h) where
+  -- The search places operations until nothing is left, at most as many as there are.
+  module _ {reach gap : ℕ → ℕ} (sound : Sound h reach gap) where
+    few : {order queue : List ℕ} → Searched h reach gap order queue → length order ≤ h .count
+    few {order} s = different (placed order) (length order) (h .count) (λ i l. s .due i l .known) (s .once)
+
+    search-finds : (fuel : ℕ) (order queue : List ℕ) → Searched h reach gap order queue → h .count < length order + fuel → (found : List ℕ) × JudgedOrder h found
+    search-finds zero order queue s enough = absurd (omega (arith, few s))
+    search-finds (suc fuel) order queue s enough = go (lowest (Left h order) (left? lawful (sound .matched) order) (h .count)) (search-finds fuel)
+      where
+        go : Lowest (Left h order) (h .count) ⊎ None (Left h order) (h .count)
+            → ((order queue : List ℕ) → Searched h reach gap order queue → h .count < length order + fuel → (found : List ℕ) × JudgedOrder h found) → (found : List ℕ) × JudgedOrder h found
+        go (inr none) more = (order, search-ends lawful s (λ o l. none o (l .due .known) l))
+        go (inl l) more =
+            let (o, queue', placeable) = search-goes-on lawful sound s (l .holds) in
+            more (snoc order o) queue' (search-places lawful s (sound .matched) placeable) (omega (arith, length-append order (o ∷ [])))
+
+  -- Tables are fit for the search where no pattern occurs: `reach` has to tell how far the value of each add covers, and `gap`
+  -- a gap of each empty remove that no value covers. For the first steps it is enough that patterns 1 and 2 do not occur.
+  module _ {reach : ℕ → ℕ} (reaches : (a : ℕ) → Is h add a → Reaches h a (reach a)) where
+    pub matched : ((n : ℕ) (listed : List ℕ) → n < 3 → Occurs h n listed → ⊥) → Matched h reach
+    matched clean = record { reaches = reaches; named = λ r removes. named r removes (lowest (Adder r) (adder? r) (h .count)); single = λ r s. single r s (decLt r s) (decLt s r) }
+      where
+        Adder : ℕ → ℕ → Type 0
+        Adder r a = Is h add a × RemoveOf h a r
+
+        adder? : (r a : ℕ) → Dec (Adder r a)
+        adder? r a = Dec·and (is? h add a) (remove-of? h a r)
+
+        named : (r : ℕ) → Is h remove r → Lowest (Adder r) (h .count) ⊎ None (Adder r) (h .count) → (a : ℕ) × Is h add a × RemoveOf h a r
+        named r removes (inl s) = (s .at, s .holds .0, s .holds .1)
+        named r removes (inr none) = absurd (clean 1 (r ∷ []) (omega arith) (unknown (record { removes = removes; unnamed = λ a is out. none a (is .known) (is, out) })))
+
+        single : (r s : ℕ) → Dec (r < s) → Dec (s < r) → Is h remove r → Is h remove s → h .value r ≡ h .value s → r ≡ s
+        single r s (yes l) d first second same = absurd (clean 2 (r ∷ s ∷ []) (omega arith) (twice (record { first = first; second = second; lower = l; same = same })))
+        single r s (no l) (yes m) first second same = absurd (clean 2 (s ∷ r ∷ []) (omega arith) (twice (record { first = second; second = first; lower = m; same = sym same })))
+        single r s (no l) (no m) first second same = omega arith
+
+    pub sound : ((n : ℕ) (listed : List ℕ) → n < 6 → Occurs h n listed → ⊥) → {gap : ℕ → ℕ} → ((e : ℕ) → Is h emptyRemove e → Gap h e (gap e)) → ((e : ℕ) → Is h emptyRemove e → Covered h (gap e) → ⊥)
+        → Sound h reach gap
+    sound clean gaps uncovered = record {
+      matched = matched (λ n listed l. clean n listed (omega arith));
+      timely = λ a r is out. timely a r is out (decLt (h .call a) (h .ret r));
+      in-turn = λ a b r first second before out. in-turn a b r first second before out (reaches a first);
+      gaps = gaps;
+      uncovered = uncovered;
+    }
+      where
+        -- a return and a call are never at the same position
+        strict : {o p : ℕ} → o < h .count → p < h .count → h .ret o ≤ h .call p → Precedes h o p
+        strict {o} {p} known known' l = let apart : h .ret o ≡ h .call p → ⊥ = lawful .apart o p known known' in omega arith
+
+        timely : (a r : ℕ) → Is h add a → RemoveOf h a r → Dec (h .call a < h .ret r) → h .call a < h .ret r
+        timely a r is out (yes l) = l
+        timely a r is out (no l) = absurd (clean 3 (r ∷ a ∷ []) (omega arith) (early (record { adds = is; removes = out; before = strict (out .removes .known) (is .known) (omega arith) })))
+
+        in-turn : (a b r : ℕ) → Is h add a → Is h add b → Precedes h a b → RemoveOf h b r → Reaches h a (reach a) → reach a < h .ret r
+        in-turn a b r first second before out (never n e) =
+            absurd (clean 4 (a ∷ b ∷ r ∷ []) (omega arith) (stuck (record { first = first; second = second; before = before; removes = out; never = n })))
+        in-turn a b r first second before out (removed s off e) = go (decLt (h .call s) (h .ret r))
+          where
+            go : Dec (h .call s < h .ret r) → reach a < h .ret r
+            go (yes l) = omega arith
+            go (no l) =
+                let late : Precedes h r s = strict (out .removes .known) (off .removes .known) (omega arith) in
+                absurd (clean 5 (a ∷ b ∷ r ∷ s ∷ []) (omega arith) (overtaken (record { first = first; second = second; ahead = before; removes = out; removes-first = off; overtakes = late })))
+
+  -- the last gap of an empty remove that no value covers, if there is one
+  gap-of : {e : ℕ} → AllCovered h e ⊎ LastUncovered h e → ℕ
+  gap-of (inl covered) = 0
+  gap-of (inr u) = u .gap
+
+  gap-lies : {e : ℕ} → (AllCovered h e → ⊥) → (u : AllCovered h e ⊎ LastUncovered h e) → Gap h e (gap-of u) × (Covered h (gap-of u) → ⊥)
+  unfolding gap-of
+  gap-lies n (inl covered) = absurd (n covered)
+  gap-lies n (inr u) = (u .lies, u .uncovered)
+
+  -- where no pattern occurs, an order exists
+  pub order-exists : NoViolation h → (order : List ℕ) × JudgedOrder h order
+  order-exists clean = search-finds (sound (λ a is. reach-of h a .reaches) (λ n listed l. clean n listed) (λ e is. gaps e is .0) (λ e is. gaps e is .1)) (suc (h .count)) [] [] (search-starts lawful _ _) (omega arith)
+    where
+      true-empty : {e : ℕ} → Is h emptyRemove e → AllCovered h e → ⊥
+      true-empty {e} is covered = let (chain, f) = false-empty is covered in clean 6 (e ∷ chain) (falseEmpty f)
+
+      gaps : (e : ℕ) → Is h emptyRemove e → Gap h e (gap-of (uncovered-gap h e)) × (Covered h (gap-of (uncovered-gap h e)) → ⊥)
+      gaps e is = gap-lies (true-empty is) (uncovered-gap h e)

@@ -1,0 +1,15 @@
+pub mod Alike
+pub mod Chains
+pub mod Choosing
+pub mod Constructing
+pub mod Deciding
+pub mod Excluding
+pub mod Laws
+pub mod Lists
+pub mod Lowest
+pub mod Occurrences
+pub mod Pairing
+pub mod Parts
+pub mod Placing
+pub mod Progress
+pub mod Rows

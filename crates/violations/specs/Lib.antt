@@ -1,0 +1,5 @@
+pub mod Violations
+pub mod Verdict
+pub mod Runs
+pub mod Parts
+pub mod Search

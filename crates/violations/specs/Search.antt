@@ -1,0 +1,83 @@
+-- The search for an order, as code sees it: operations are placed one after the other, on a queue of adds. `reach` and
+-- `gap` are tables of the code: where the value of an add stops to cover, and a gap of an empty remove. What a verdict is
+-- can be understood without this file.
+use Prim.Native.Nat.{ℕ, _≤_, _<_}
+use mathlib.Core.Path.{_≡_}
+use mathlib.Core.Logic.{_⊎_, _↔_}
+use mathlib.Core.List.{List, [], _∷_, _++_, map}
+use lib.ListN.{length}
+use Rattle.history.specs.History.{History, add, remove, emptyRemove, Returned, Precedes}
+use Rattle.history.specs.Linearization.{Fifo, placed, Listed}
+use Rattle.violations.specs.Violations.{Is, RemoveOf, Removed, Gap, Reaches, Covered}
+
+-- Patterns 1 and 2 do not occur: each remove has its add, and no other remove has its value.
+pub record Matched (h : History) (reach : ℕ → ℕ) : Type 0 where
+  pub reaches : (a : ℕ) → Is h add a → Reaches h a (reach a)
+  pub named : (r : ℕ) → Is h remove r → (a : ℕ) × Is h add a × RemoveOf h a r
+  pub single : (r s : ℕ) → Is h remove r → Is h remove s → h .value r ≡ h .value s → r ≡ s
+
+-- Patterns 3 to 6 do not occur either.
+pub record Sound (h : History) (reach gap : ℕ → ℕ) : Type 0 where
+  pub matched : Matched h reach
+  -- 3: an add is called before its remove returns
+  pub timely : (a r : ℕ) → Is h add a → RemoveOf h a r → h .call a < h .ret r
+  -- 4 and 5: the value of an add that precedes another is removed before the other's remove returns
+  pub in-turn : (a b r : ℕ) → Is h add a → Is h add b → Precedes h a b → RemoveOf h b r → reach a < h .ret r
+  -- 6: an empty remove has a gap that no value covers
+  pub gaps : (e : ℕ) → Is h emptyRemove e → Gap h e (gap e)
+  pub uncovered : (e : ℕ) → Is h emptyRemove e → Covered h (gap e) → ⊥
+
+-- an operation that the judge lists
+pub record Due (h : History) (o : ℕ) : Type 0 where
+  pub known : o < h .count
+  pub listed : Returned h o ⊎ Removed h o
+
+-- one that is left to be placed
+pub record Left (h : History) (order : List ℕ) (o : ℕ) : Type 0 where
+  pub due : Due h o
+  pub unplaced : Listed order o → ⊥
+
+-- Nothing that is left precedes it.
+pub record Enabled (h : History) (order : List ℕ) (o : ℕ) : Type 0 where
+  pub left : Left h order o
+  pub first : (p : ℕ) → Left h order p → h .call o < h .ret p
+
+-- The value of an add, once it is in the queue, does not block a remove or an empty remove that is left.
+pub record Safe (h : History) (reach gap : ℕ → ℕ) (order : List ℕ) (a : ℕ) : Type 0 where
+  pub removes : (b r : ℕ) → Is h add b → Left h order b → RemoveOf h b r → reach a < h .ret r
+  pub empties : (e : ℕ) → Is h emptyRemove e → Left h order e → reach a ≤ gap e
+
+-- what placing an operation makes of the queue
+pub data Serves (h : History) (reach gap : ℕ → ℕ) (order : List ℕ) (o : ℕ) : List ℕ → List ℕ → Type 0 where
+  enqueues : {queue : List ℕ} → h .kind o ≡ add → Safe h reach gap order o → Serves h reach gap order o queue (queue ++ (o ∷ []))
+  dequeues : {a : ℕ} {queue : List ℕ} → RemoveOf h a o → Serves h reach gap order o (a ∷ queue) queue
+  meets-empty : h .kind o ≡ emptyRemove → Serves h reach gap order o [] []
+
+-- An operation that may be placed next.
+pub record Placeable (h : History) (reach gap : ℕ → ℕ) (order queue : List ℕ) (o : ℕ) (queue' : List ℕ) : Type 0 where
+  pub enabled : Enabled h order o
+  pub serves : Serves h reach gap order o queue queue'
+
+-- The adds that are in the queue when the operations of `order` are placed.
+pub record Queued (h : History) (reach gap : ℕ → ℕ) (order queue : List ℕ) : Type 0 where
+  -- they are placed, and each is in the queue once
+  pub added : (a : ℕ) → Listed queue a → Is h add a × Listed order a
+  pub apart : (i j : ℕ) → i < j → j < length queue → placed queue i ≡ placed queue j → ⊥
+  -- a remove is left exactly if the add of its value is left or in the queue
+  pub served : (a r : ℕ) → Is h add a → RemoveOf h a r → Left h order r ↔ (Left h order a ⊎ Listed queue a)
+  -- they block nothing: no remove of an add that is left, no remove of one behind them, no empty remove
+  pub before-adds : (i b r : ℕ) → i < length queue → Is h add b → Left h order b → RemoveOf h b r → reach (placed queue i) < h .ret r
+  pub before-queued : (i j r : ℕ) → i < j → j < length queue → RemoveOf h (placed queue j) r → reach (placed queue i) < h .ret r
+  pub before-empties : (i e : ℕ) → i < length queue → Is h emptyRemove e → Left h order e → reach (placed queue i) ≤ gap e
+
+-- How the search stands: the operations of `order` are placed, and the adds of `queue` are in the queue.
+pub record Searched (h : History) (reach gap : ℕ → ℕ) (order queue : List ℕ) : Type 0 where
+  -- what is placed is to be listed, each operation once
+  pub due : (i : ℕ) → i < length order → Due h (placed order i)
+  pub once : (i j : ℕ) → i < j → j < length order → placed order i ≡ placed order j → ⊥
+  -- nothing placed comes before what precedes it, whether that is placed or left
+  pub keeps : (i j : ℕ) → i < j → j < length order → Precedes h (placed order j) (placed order i) → ⊥
+  pub ahead : (i p : ℕ) → i < length order → Left h order p → Precedes h p (placed order i) → ⊥
+  -- what can be run on the queue can be run behind the order
+  pub runs : (more : List ℕ) → Fifo h more (map (h .value) queue) → Fifo h (order ++ more) []
+  pub queued : Queued h reach gap order queue
