@@ -48,11 +48,12 @@ skip-below i j k l = go (skip-is i j)
     go (inl a) = omega (arith, a .1)
     go (inr a) = omega (arith, a .1)
 
--- either n is not among them, or without it there is one less, all below n
-pub different : (f : ℕ → ℕ) (k n : ℕ) → ((i : ℕ) → i < k → f i < n) → ((i j : ℕ) → i < j → j < k → f i ≡ f j → ⊥) → k ≤ n
-different f zero n small apart = omega arith
-different f (suc k) zero small apart = absurd (omega (arith, small 0 (omega arith)))
-different f (suc k) (suc n) small apart = go (lowest (λ i. f i ≡ n) (λ i. ℕ-discrete (f i) n) (suc k)) (different f (suc k) n) (λ i. different (λ j. f (skip i j)) k n)
+-- numbers below n that are all different are at most n: either n - 1 is not among them, or without it there is one less, all
+-- below n - 1
+pub different-are-few : (f : ℕ → ℕ) (k n : ℕ) → ((i : ℕ) → i < k → f i < n) → ((i j : ℕ) → i < j → j < k → f i ≡ f j → ⊥) → k ≤ n
+different-are-few f zero n small apart = omega arith
+different-are-few f (suc k) zero small apart = absurd (omega (arith, small 0 (omega arith)))
+different-are-few f (suc k) (suc n) small apart = go (lowest (λ i. f i ≡ n) (λ i. ℕ-discrete (f i) n) (suc k)) (different-are-few f (suc k) n) (λ i. different-are-few (λ j. f (skip i j)) k n)
   where
     alone : (i j : ℕ) → i < suc k → j < suc k → f i ≡ f j → Dec (i < j) → Dec (j < i) → i ≡ j
     alone i j a b e (yes l) d = absurd (apart i j l b e)
@@ -75,4 +76,4 @@ different f (suc k) (suc n) small apart = go (lowest (λ i. f i ≡ n) (λ i. �
         )
 
 pub linearization-short : (h : History) (order : List ℕ) → Linearization h order → length order ≤ h .count
-linearization-short h order legal = different (placed order) (length order) (h .count) (legal .known) (legal .once)
+linearization-short h order legal = different-are-few (placed order) (length order) (h .count) (legal .known) (legal .once)

@@ -7,9 +7,10 @@ use mathlib.Core.List.{List, [], _∷_, map}
 use Rattle.reader.specs.Number.{bigEndian, bytesOf}
 use Rattle.reader.specs.Record.{lengthOf, eventOf, encode, decodeAt}
 use Rattle.reader.specs.Log.{ofOthers, pendingCalls, pendingKind, earliestRemove, addedValues, isIn, eventFault, fault, scan, readPartial, operations, encodeAll, Reading, readable, readLog, encodeLog}
+use Rattle.history.specs.Each.{Each}
 use Rattle.history.specs.History.{History}
 use Rattle.history.specs.Operations.{callIndex, firstOf, positionOf, historyOf}
-use Rattle.history.specs.Runs.{recordsFrom, recordsOf, Row, Holds, Each, AllLegal, linearizations, NoneLegal, noLinearizations}
+use Rattle.history.specs.Runs.{recordsFrom, recordsOf, Row, Holds, AllLegal, linearizations, NoneLegal, noLinearizations}
 use Rattle.history.proofs.Deciding.{linearization?}
 
 -- whether each of a list has a property

@@ -9,6 +9,7 @@ use Rattle.reader.specs.declared.record.Removed.the-variants.{Value, Empty}
 use Rattle.reader.specs.declared.record.Event.{Event}
 use Rattle.reader.specs.declared.record.Event.the-variants.{CallAdd, CallRemove, ReturnAdd, ReturnRemove}
 use Rattle.reader.specs.declared.record.Record.{Record}
+use Rattle.history.specs.Each.{Each}
 use Rattle.history.specs.History.{History}
 use Rattle.history.specs.Linearization.{Linearization}
 use Rattle.history.specs.Operations.{historyOf}
@@ -35,19 +36,12 @@ pub record Holds {A : Type 0} (Right : History → A → Type 0) (row : Row A) :
   pub read : readLog (encodeLog (recordsOf (row .run))) ≡ readable (recordsOf (row .run))
   pub right : Right (historyOf (recordsOf (row .run))) (row .says)
 
--- Each of a list has a property.
-abbrev pub Each : {A : Type 0} → (A → Type 0) → List A → Type 0
-Each P [] = Unit {0}
-Each P (x ∷ xs) = P x × Each P xs
-
 -- All of the lists are legal orders of a history.
 abbrev pub AllLegal : History → List (List ℕ) → Type 0
 AllLegal h lists = Each (λ listed. Linearization h listed) lists
 
 abbrev pub linearizations : List (Row (List (List ℕ)))
 linearizations =
-    -- A7( R( R7): the open add is listed, since its value was removed
-    record { run = (0, CallAdd 7) ∷ (1, CallRemove) ∷ (1, ReturnRemove (Value 7)) ∷ []; says = (0 ∷ 1 ∷ []) ∷ [] } ∷
     -- A1(: an open add may be left out or listed
     record { run = (0, CallAdd 1) ∷ []; says = [] ∷ (0 ∷ []) ∷ [] } ∷
     -- A1( A2( A1) A2): neither add precedes the other

@@ -1,4 +1,4 @@
--- Bounded searches, in a form that computes: the lowest or the highest number below a bound that has a property, or that none has it.
+-- Bounded searches: the lowest or the highest number below a bound that has a property, or that none has it.
 use Prim.Native.Nat.{ℕ, zero, suc, _<_}
 use native.Mathlib.Omega.{arith}
 use native.Mathlib.Decide.{decLt}
@@ -36,7 +36,7 @@ pub record Highest (P : ℕ → Type 0) (n : ℕ) : Type 0 where
   pub holds : P at
   pub none-higher : (m : ℕ) → at < m → m < n → P m → ⊥
 
-unfoldable pub highest : (P : ℕ → Type 0) → ((m : ℕ) → Dec (P m)) → (n : ℕ) → Highest P n ⊎ None P n
+pub highest : (P : ℕ → Type 0) → ((m : ℕ) → Dec (P m)) → (n : ℕ) → Highest P n ⊎ None P n
 highest P d zero = inr (λ m h p. absurd (omega arith))
 highest P d (suc n) = go (d n) (highest P d n)
   where

@@ -1,17 +1,17 @@
--- Histories that are alike have the same legal orders but for the numbers of the operations, and the same verdict byte. Each
--- is a part of the other in which everything is kept, so this rests on the laws of parts.
+-- Histories that are alike have the same verdict byte. Each is a part of the other in which everything is kept, so this rests
+-- on the laws of parts.
 use Prim.Native.Nat.{ℕ, _<_}
-use native.Mathlib.Omega.{arith}
 use mathlib.Core.Path.{_≡_, refl, sym, ap, _∙_}
 use mathlib.Core.Logic.{Iff·symm}
 use mathlib.Core.List.{List}
+use Rattle.history.specs.Each.{Each}
 use Rattle.history.specs.History.{History, Lawful}
-use Rattle.history.specs.Linearization.{Linearization}
-use Rattle.violations.specs.Verdict.{FirstViolation, JudgedOrder, Verdict}
-use Rattle.violations.specs.Parts.{HasValue, Part, Alike}
-use Rattle.violations.proofs.Occurrences.{occurs-numbered}
-use Rattle.violations.proofs.Parts.{part-order, part-violations}
-use Rattle.violations.proofs.Excluding.{excluded}
+use Rattle.violations.specs.Violations.{Occurs}
+use Rattle.violations.specs.Verdict.{Verdict}
+use Rattle.violations.specs.Parts.{HasValue, Part, Kept, Alike}
+use Rattle.violations.proofs.Occurrences.{occurs-known}
+use Rattle.violations.proofs.Matching.{each-map}
+use Rattle.violations.proofs.Parts.{part-verdict}
 
 -- Likeness goes both ways: what is known of `from o` in one history is known of `to (from o)` in the other, which is o.
 pub alike-sym : {h k : History} → Alike h k → Alike k h
@@ -47,26 +47,13 @@ alike-part a = record {
   whole = λ o p x y e. (a .from o, record { known = a .from-known o (x .known); is = a .forth o (x .known) });
 }
 
--- A legal order of one gives a legal order of the other.
-pub alike-order : {h k : History} → Alike h k → (order : List ℕ) → Linearization h order → (order' : List ℕ) × Linearization k order'
-alike-order a order legal = let found = part-order (alike-part (alike-sym a)) order legal in (found .0, found .2)
-
--- The first pattern of one has no lower number than that of the other: it would be one of 1 to 5, and so occur in both.
-alike-not-lower : {h k : History} → Alike h k → {m n : ℕ} {listed listed' : List ℕ} → FirstViolation h m listed → FirstViolation k n listed' → m < n → ⊥
-alike-not-lower a {m} {listed} x y lower =
-    let found = part-violations (alike-part a) {n = m} (omega (arith, occurs-numbered (y .occurs))) .0 (listed, x .occurs) in
-    y .lowest-number m (found .0) lower (found .1)
-
--- A legal order of one rules out a pattern of the other.
-alike-excluded : {h k : History} → Lawful k → Alike h k → {n : ℕ} {order listed : List ℕ} → JudgedOrder h order → FirstViolation k n listed → ⊥
-alike-excluded laws a {order = order} x y = let found = alike-order a order (x .legal) in excluded laws (found .1) (y .occurs)
+-- All that a pattern lists is kept.
+alike-keeps : {h k : History} (a : Alike h k) → {n : ℕ} {listed : List ℕ} → Occurs k n listed → Each (Kept (alike-part a)) listed
+unfolding alike-part
+alike-keeps a {listed = listed} x = each-map (λ o l. (a .from o, record { known = a .from-known o l; is = a .forth o l })) listed (occurs-known x)
 
 -- The verdict byte is the same.
-pub alike-verdict : {h k : History} → Lawful h → Lawful k → Alike h k → {m n : ℕ} {listed listed' : List ℕ} → Verdict h m listed → Verdict k n listed' → m ≡ n
+pub alike-verdict : {h k : History} → Lawful h → Lawful k → Alike h k → {m n : ℕ} {xs ys : List ℕ} → Verdict h m xs → Verdict k n ys → m ≡ n
 alike-verdict laws-h laws-k a (Verdict.order x) (Verdict.order y) = refl
-alike-verdict laws-h laws-k a (Verdict.order x) (Verdict.violation y) = absurd (alike-excluded laws-k a x y)
-alike-verdict laws-h laws-k a (Verdict.violation x) (Verdict.order y) = absurd (alike-excluded laws-h (alike-sym a) y x)
-alike-verdict laws-h laws-k a {m} {n} (Verdict.violation x) (Verdict.violation y) =
-    let not-lower : m < n → ⊥ = alike-not-lower a x y in
-    let not-higher : n < m → ⊥ = alike-not-lower (alike-sym a) y x in
-    omega arith
+alike-verdict laws-h laws-k a (Verdict.violation x) y = part-verdict (alike-part (alike-sym a)) laws-h laws-k x (alike-keeps (alike-sym a) (x .occurs)) y
+alike-verdict laws-h laws-k a (Verdict.order x) (Verdict.violation y) = sym (part-verdict (alike-part a) laws-k laws-h y (alike-keeps a (y .occurs)) (Verdict.order x))

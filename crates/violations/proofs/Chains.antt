@@ -5,7 +5,7 @@ use native.Mathlib.Decide.{ℕ-discrete, decLe, decLt}
 use mathlib.Core.Path.{_≡_, refl}
 use mathlib.Core.Logic.{_⊎_, inl, inr, _↔_, Dec·and, Dec·not}
 use mathlib.Core.List.{List, [], _∷_}
-use Rattle.reader.proofs.Search.{Lowest, Highest, None, lowest, highest}
+use Rattle.reader.proofs.Search.{Lowest, None, lowest}
 use Rattle.history.specs.History.{History, emptyRemove}
 use Rattle.history.proofs.Deciding.{equivalent?}
 use Rattle.violations.specs.Violations.{Is, RemoveOf, Removed, Gap, Reaches, removed, never, Covers, Covered, AllCovered, Furthest, Chain, all, link, FalseEmpty}
@@ -179,22 +179,21 @@ unfoldable pub false-empty : {h : History} {e : ℕ} → Is h emptyRemove e → 
 unfolding chained-exactly
 false-empty {h} {e} is covered = let c = chained-exactly h e .0 covered in (c .0, record { empties = is; covered = covered; chained = c .1 })
 
--- The last gap of an empty remove that no value covers.
-pub record LastUncovered (h : History) (e : ℕ) : Type 0 where
+-- A gap of an empty remove that no value covers.
+pub record UncoveredGap (h : History) (e : ℕ) : Type 0 where
   pub gap : ℕ
   pub lies : Gap h e gap
   pub uncovered : Covered h gap → ⊥
-  pub later : (g : ℕ) → gap < g → Gap h e g → Covered h g
 
 -- whether a gap is one of an empty remove
 unfoldable pub gap? : (h : History) (e g : ℕ) → Dec (Gap h e g)
 unfolding equivalent? Dec·and decLe decLt
 gap? h e g = equivalent? {P = _ × _} (λ p. record { from = p .0; until = p .1 }) (λ l. (l .from, l .until)) (Dec·and (decLe _ _) (decLt _ _))
 
--- all gaps of an empty remove are covered, or one is the last that is not
-unfoldable pub uncovered-gap : (h : History) (e : ℕ) → AllCovered h e ⊎ LastUncovered h e
-unfolding highest gap? covered? Dec·and Dec·not
-uncovered-gap h e = go (highest Uncovered (λ g. Dec·and (gap? h e g) (Dec·not (covered? h g))) (h .ret e))
+-- all gaps of an empty remove are covered, or the first that is not is found
+unfoldable pub uncovered-gap : (h : History) (e : ℕ) → AllCovered h e ⊎ UncoveredGap h e
+unfolding lowest gap? covered? Dec·and Dec·not
+uncovered-gap h e = go (lowest Uncovered (λ g. Dec·and (gap? h e g) (Dec·not (covered? h g))) (h .ret e))
   where
     Uncovered : ℕ → Type 0
     Uncovered g = Gap h e g × (Covered h g → ⊥)
@@ -203,12 +202,6 @@ uncovered-gap h e = go (highest Uncovered (λ g. Dec·and (gap? h e g) (Dec·not
     covered-unless n l (yes c) = c
     covered-unless n l (no q) = absurd (n (l, q))
 
-    go : Highest Uncovered (h .ret e) ⊎ None Uncovered (h .ret e) → AllCovered h e ⊎ LastUncovered h e
-    go (inl s) =
-        inr (record {
-          gap = s .at;
-          lies = s .holds .0;
-          uncovered = s .holds .1;
-          later = λ g behind l. covered-unless (s .none-higher g behind (l .until)) l (covered? h g);
-        })
+    go : Lowest Uncovered (h .ret e) ⊎ None Uncovered (h .ret e) → AllCovered h e ⊎ UncoveredGap h e
+    go (inl s) = inr (record { gap = s .at; lies = s .holds .0; uncovered = s .holds .1 })
     go (inr none) = inl (λ g l. covered-unless (none g (l .until)) l (covered? h g))

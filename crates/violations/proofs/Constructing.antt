@@ -1,7 +1,6 @@
 -- Where no pattern occurs, there is a legal order.
 use Prim.Native.Nat.{ℕ, zero, suc, _+_, _≤_, _<_}
 use native.Mathlib.Omega.{arith}
-use native.Mathlib.Decide.{decLt}
 use mathlib.Core.Path.{_≡_, sym}
 use mathlib.Core.Logic.{_⊎_, inl, inr, Dec·and}
 use mathlib.Core.List.{List, [], _∷_}
@@ -9,20 +8,22 @@ use lib.ListN.{length, length-append}
 use Rattle.reader.proofs.Search.{Lowest, None, lowest}
 use Rattle.history.specs.History.{History, add, remove, emptyRemove, Precedes, Lawful}
 use Rattle.history.specs.Linearization.{placed}
-use Rattle.history.proofs.Counting.{different}
+use Rattle.history.proofs.Counting.{different-are-few}
 use Rattle.violations.specs.Violations.{Is, RemoveOf, Gap, Reaches, removed, never, Covered, AllCovered, Occurs, unknown, twice, early, stuck, overtaken, falseEmpty, NoViolation}
 use Rattle.violations.specs.Verdict.{JudgedOrder}
 use Rattle.violations.specs.Search.{Matched, Sound, Left, Searched}
 use Rattle.violations.proofs.Lists.{snoc}
-use Rattle.violations.proofs.Chains.{is?, remove-of?, reach-of, false-empty, LastUncovered, uncovered-gap}
+use Rattle.violations.proofs.Chains.{some?, is?, remove-of?, reach-of, false-empty, UncoveredGap, uncovered-gap}
+use Rattle.violations.proofs.Precedence.{precedes-unless-after}
 use Rattle.violations.proofs.Placing.{search-starts, search-places, search-ends}
 use Rattle.violations.proofs.Progress.{left?, search-goes-on}
 
 module _ {h : History} (lawful : Lawful h) where
-  -- The search places operations until nothing is left, at most as many as there are.
+  -- The search places operations until nothing is left.
   module _ {reach gap : ℕ → ℕ} (sound : Sound h reach gap) where
+    -- it has placed no more than there are
     few : {order queue : List ℕ} → Searched h reach gap order queue → length order ≤ h .count
-    few {order} s = different (placed order) (length order) (h .count) (λ i l. s .due i l .known) (s .once)
+    few {order} s = different-are-few (placed order) (length order) (h .count) (λ i l. s .due i l .known) (s .once)
 
     search-finds : (fuel : ℕ) (order queue : List ℕ) → Searched h reach gap order queue → h .count < length order + fuel → (found : List ℕ) × JudgedOrder h found
     search-finds zero order queue s enough = absurd (omega (arith, few s))
@@ -39,58 +40,52 @@ module _ {h : History} (lawful : Lawful h) where
   -- a gap of each empty remove that no value covers. For the first steps it is enough that patterns 1 and 2 do not occur.
   module _ {reach : ℕ → ℕ} (reaches : (a : ℕ) → Is h add a → Reaches h a (reach a)) where
     pub matched : ((n : ℕ) (listed : List ℕ) → n < 3 → Occurs h n listed → ⊥) → Matched h reach
-    matched clean = record { reaches = reaches; named = λ r removes. named r removes (lowest (Adder r) (adder? r) (h .count)); single = λ r s. single r s (decLt r s) (decLt s r) }
+    matched clean = record { reaches = reaches; named = λ r removes. named removes (some? (Adder r) (λ a. Dec·and (is? h add a) (remove-of? h a r)) (h .count) (λ a adder. adder .0 .known)); single = single }
       where
         Adder : ℕ → ℕ → Type 0
         Adder r a = Is h add a × RemoveOf h a r
 
-        adder? : (r a : ℕ) → Dec (Adder r a)
-        adder? r a = Dec·and (is? h add a) (remove-of? h a r)
+        named : {r : ℕ} → Is h remove r → Dec ((a : ℕ) × Adder r a) → (a : ℕ) × Is h add a × RemoveOf h a r
+        named removes (yes (a, (is, out))) = (a, is, out)
+        named {r} removes (no n) = absurd (clean 1 (r ∷ []) (omega arith) (unknown (record { removes = removes; unnamed = λ a is out. n (a, (is, out)) })))
 
-        named : (r : ℕ) → Is h remove r → Lowest (Adder r) (h .count) ⊎ None (Adder r) (h .count) → (a : ℕ) × Is h add a × RemoveOf h a r
-        named r removes (inl s) = (s .at, s .holds .0, s .holds .1)
-        named r removes (inr none) = absurd (clean 1 (r ∷ []) (omega arith) (unknown (record { removes = removes; unnamed = λ a is out. none a (is .known) (is, out) })))
-
-        single : (r s : ℕ) → Dec (r < s) → Dec (s < r) → Is h remove r → Is h remove s → h .value r ≡ h .value s → r ≡ s
-        single r s (yes l) d first second same = absurd (clean 2 (r ∷ s ∷ []) (omega arith) (twice (record { first = first; second = second; lower = l; same = same })))
-        single r s (no l) (yes m) first second same = absurd (clean 2 (s ∷ r ∷ []) (omega arith) (twice (record { first = second; second = first; lower = m; same = sym same })))
-        single r s (no l) (no m) first second same = omega arith
+        single : (r s : ℕ) → Is h remove r → Is h remove s → h .value r ≡ h .value s → r ≡ s
+        single r s first second same =
+            let not-lower : r < s → ⊥ = λ l. clean 2 (r ∷ s ∷ []) (omega arith) (twice (record { first = first; second = second; lower = l; same = same })) in
+            let not-higher : s < r → ⊥ = λ l. clean 2 (s ∷ r ∷ []) (omega arith) (twice (record { first = second; second = first; lower = l; same = sym same })) in
+            omega arith
 
     pub sound : ((n : ℕ) (listed : List ℕ) → n < 6 → Occurs h n listed → ⊥) → {gap : ℕ → ℕ} → ((e : ℕ) → Is h emptyRemove e → Gap h e (gap e)) → ((e : ℕ) → Is h emptyRemove e → Covered h (gap e) → ⊥)
         → Sound h reach gap
     sound clean gaps uncovered = record {
       matched = matched (λ n listed l. clean n listed (omega arith));
-      timely = λ a r is out. timely a r is out (decLt (h .call a) (h .ret r));
+      timely = timely;
       in-turn = λ a b r first second before out. in-turn a b r first second before out (reaches a first);
       gaps = gaps;
       uncovered = uncovered;
     }
       where
-        -- a return and a call are never at the same position
-        strict : {o p : ℕ} → o < h .count → p < h .count → h .ret o ≤ h .call p → Precedes h o p
-        strict {o} {p} known known' l = let apart : h .ret o ≡ h .call p → ⊥ = lawful .apart o p known known' in omega arith
-
-        timely : (a r : ℕ) → Is h add a → RemoveOf h a r → Dec (h .call a < h .ret r) → h .call a < h .ret r
-        timely a r is out (yes l) = l
-        timely a r is out (no l) = absurd (clean 3 (r ∷ a ∷ []) (omega arith) (early (record { adds = is; removes = out; before = strict (out .removes .known) (is .known) (omega arith) })))
+        timely : (a r : ℕ) → Is h add a → RemoveOf h a r → h .call a < h .ret r
+        timely a r is out =
+            let not-early : Precedes h r a → ⊥ = λ before. clean 3 (r ∷ a ∷ []) (omega arith) (early (record { adds = is; removes = out; before = before })) in
+            let not-after : h .ret r ≤ h .call a → ⊥ = λ l. not-early (precedes-unless-after lawful (out .removes .known) (is .known) l) in
+            omega arith
 
         in-turn : (a b r : ℕ) → Is h add a → Is h add b → Precedes h a b → RemoveOf h b r → Reaches h a (reach a) → reach a < h .ret r
         in-turn a b r first second before out (never n e) =
             absurd (clean 4 (a ∷ b ∷ r ∷ []) (omega arith) (stuck (record { first = first; second = second; before = before; removes = out; never = n })))
-        in-turn a b r first second before out (removed s off e) = go (decLt (h .call s) (h .ret r))
-          where
-            go : Dec (h .call s < h .ret r) → reach a < h .ret r
-            go (yes l) = omega arith
-            go (no l) =
-                let late : Precedes h r s = strict (out .removes .known) (off .removes .known) (omega arith) in
-                absurd (clean 5 (a ∷ b ∷ r ∷ s ∷ []) (omega arith) (overtaken (record { first = first; second = second; ahead = before; removes = out; removes-first = off; overtakes = late })))
+        in-turn a b r first second before out (removed s off e) =
+            let not-overtaken : Precedes h r s → ⊥ = λ late.
+            clean 5 (a ∷ b ∷ r ∷ s ∷ []) (omega arith) (overtaken (record { first = first; second = second; ahead = before; removes = out; removes-first = off; overtakes = late })) in
+            let not-after : h .ret r ≤ h .call s → ⊥ = λ l. not-overtaken (precedes-unless-after lawful (out .removes .known) (off .removes .known) l) in
+            omega arith
 
-  -- the last gap of an empty remove that no value covers, if there is one
-  gap-of : {e : ℕ} → AllCovered h e ⊎ LastUncovered h e → ℕ
+  -- a gap of an empty remove that no value covers, if there is one
+  gap-of : {e : ℕ} → AllCovered h e ⊎ UncoveredGap h e → ℕ
   gap-of (inl covered) = 0
   gap-of (inr u) = u .gap
 
-  gap-lies : {e : ℕ} → (AllCovered h e → ⊥) → (u : AllCovered h e ⊎ LastUncovered h e) → Gap h e (gap-of u) × (Covered h (gap-of u) → ⊥)
+  gap-lies : {e : ℕ} → (AllCovered h e → ⊥) → (u : AllCovered h e ⊎ UncoveredGap h e) → Gap h e (gap-of u) × (Covered h (gap-of u) → ⊥)
   unfolding gap-of
   gap-lies n (inl covered) = absurd (n covered)
   gap-lies n (inr u) = (u .lies, u .uncovered)

@@ -10,7 +10,7 @@ use Rattle.history.specs.History.{History, add, emptyRemove}
 use Rattle.history.proofs.Deciding.{all-below?, implies?, equivalent?, listed?, linearization?}
 use Rattle.violations.specs.Violations.{Is, RemoveOf, Unknown, Twice, Early, Stuck, Overtaken, AllCovered, FalseEmpty, Occurs, unknown, twice, early, stuck, overtaken, falseEmpty, NoViolation}
 use Rattle.violations.specs.Verdict.{FirstViolation, JudgedOrder}
-use Rattle.violations.proofs.Chains.{some?, is?, remove-of?, removed?, chain-one, false-empty, LastUncovered, uncovered-gap}
+use Rattle.violations.proofs.Chains.{some?, is?, remove-of?, removed?, chain-one, false-empty, UncoveredGap, uncovered-gap}
 use Rattle.violations.proofs.Occurrences.{OfKinds, kindsOf, occurs-of-kinds, occurs-numbered}
 use Rattle.violations.proofs.Lowest.{Compared, lower-total, same?, LowestList, Sought, only-lowest, LowestPair, lowest-pair, lowest-cons}
 
@@ -132,7 +132,7 @@ false-empty-of h n l e = go (ℕ-discrete n 6) (is? h emptyRemove e) (uncovered-
     found : n ≡ 6 → (chain : List ℕ) × FalseEmpty h e chain → LowestList (λ chain. Occurs h n (e ∷ chain))
     found six (chain, f) = only-lowest {list = chain} (rw six (falseEmpty f)) (λ other o. chain-one (occurs-false-empty l o .chained) (f .chained))
 
-    go : Dec (n ≡ 6) → Dec (Is h emptyRemove e) → AllCovered h e ⊎ LastUncovered h e → Sought (λ chain. Occurs h n (e ∷ chain))
+    go : Dec (n ≡ 6) → Dec (Is h emptyRemove e) → AllCovered h e ⊎ UncoveredGap h e → Sought (λ chain. Occurs h n (e ∷ chain))
     go (yes six) (yes i) (inl covered) = inl (found six (false-empty i covered))
     go (yes six) (yes i) (inr u) = inr (λ chain o. u .uncovered (occurs-false-empty l o .covered (u .gap) (u .lies)))
     go (yes six) (no q) d = inr (λ chain o. q (occurs-false-empty l o .empties))
@@ -156,7 +156,7 @@ SomeViolation h = (n : ℕ) × (listed : List ℕ) × FirstViolation h n listed
 -- the first violation of a history is found, or no pattern occurs
 unfoldable pub first-violation : (h : History) → SomeViolation h ⊎ NoViolation h
 unfolding lowest-pair lowest-occurrence
-first-violation h = go (lowest-pair (Occurs h) (lowest-occurrence h) 7 (λ n listed. occurs-numbered))
+first-violation h = go (lowest-pair (Occurs h) (lowest-occurrence h) 7 (λ n listed o. occurs-numbered o .1))
   where
     go : LowestPair (Occurs h) ⊎ NoViolation h → SomeViolation h ⊎ NoViolation h
     go (inl s) = inl (s .number, s .lists .list, record { occurs = s .lists .holds; lowest-number = s .none-lower; lowest-list = s .lists .none-lower })
@@ -169,13 +169,8 @@ first-violation-one {h} {m} {n} {xs} {ys} f k = (same, lists (lower-total xs ys)
     no-lower : {m n : ℕ} {xs ys : List ℕ} → FirstViolation h m xs → FirstViolation h n ys → m < n → ⊥
     no-lower {m} {n} {xs} f k l = k .lowest-number m xs l (f .occurs)
 
-    numbers : Dec (m < n) → Dec (n < m) → m ≡ n
-    numbers (yes l) d = absurd (no-lower f k l)
-    numbers (no l) (yes d) = absurd (no-lower k f d)
-    numbers (no l) (no d) = omega arith
-
     same : m ≡ n
-    same = numbers (decLt m n) (decLt n m)
+    same = let not-lower : m < n → ⊥ = no-lower f k in let not-higher : n < m → ⊥ = no-lower k f in omega arith
 
     lists : Compared xs ys → xs ≡ ys
     lists (inl lower) = absurd (k .lowest-list xs (rw same at (f .occurs)) lower)

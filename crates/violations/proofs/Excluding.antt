@@ -1,7 +1,6 @@
 -- A legal order rules every pattern out.
 use Prim.Native.Nat.{ℕ, _+_, _≤_, _<_}
 use native.Mathlib.Omega.{arith}
-use native.Mathlib.Decide.{decLt}
 use mathlib.Core.Path.{_≡_, refl, sym, ap, _∙_}
 use mathlib.Core.Logic.{_⊎_, inl, inr}
 use mathlib.Core.List.{List}
@@ -11,28 +10,26 @@ use Rattle.history.specs.History.{History, add, remove, emptyRemove, Precedes, 
 use Rattle.history.specs.Linearization.{placed, Listed, Linearization}
 use Rattle.violations.specs.Violations.{Is, RemoveOf, Unknown, Twice, Early, Stuck, Overtaken, Gap, Reaches, removed, never, Covers, Covered, FalseEmpty, Occurs, unknown, twice, early, stuck, overtaken, falseEmpty}
 use Rattle.violations.proofs.Choosing.{Best, best, greater}
+use Rattle.violations.proofs.Precedence.{precedes-unless-after}
 use Rattle.violations.proofs.Pairing.{rank, rank-passed, Source, source, Taken, taken, taken-before-empty}
 
 module _ {h : History} (lawful : Lawful h) {order : List ℕ} (legal : Linearization h order) where
   -- one operation stands at one place
   same-place : (i j : ℕ) → i < length order → j < length order → placed order i ≡ placed order j → i ≡ j
-  same-place i j l m e = go (decLt i j) (decLt j i)
-    where
-      go : Dec (i < j) → Dec (j < i) → i ≡ j
-      go (yes b) d = absurd (legal .once i j b m e)
-      go (no b) (yes c) = absurd (legal .once j i c l (sym e))
-      go (no b) (no c) = omega arith
+  same-place i j l m e =
+      let not-before : i < j → ⊥ = λ b. legal .once i j b m e in
+      let not-behind : j < i → ⊥ = λ b. legal .once j i b l (sym e) in
+      omega arith
 
   -- what precedes comes before
   in-order : {o p : ℕ} → Precedes h o p → (a : Listed order o) (b : Listed order p) → a .at < b .at
-  in-order precedes a b = go (decLt (a .at) (b .at)) (decLt (b .at) (a .at))
+  in-order {o} {p} precedes a b =
+      let not-behind : b .at < a .at → ⊥ = λ l. legal .keeps (b .at) (a .at) l (a .below) (rw (a .here, b .here) precedes) in
+      let not-here : a .at ≡ b .at → ⊥ = λ e. itself (sym (a .here) ∙ ap (placed order) e ∙ b .here) in
+      omega arith
     where
-      go : Dec (a .at < b .at) → Dec (b .at < a .at) → a .at < b .at
-      go (yes l) d = l
-      go (no l) (yes m) = absurd (legal .keeps (b .at) (a .at) m (a .below) (rw (a .here, b .here) precedes))
-      go (no l) (no m) =
-          let e : a .at ≡ b .at = omega arith in
-          absurd (omega (arith, lawful .spans (placed order (a .at)) (legal .known (a .at) (a .below)), ap (h .ret) (a .here), ap (h .call) (ap (placed order) e ∙ b .here)))
+      itself : o ≡ p → ⊥
+      itself e = omega (arith, ap (h .call) e, lawful .spans o (rw (a .here) at (legal .known (a .at) (a .below))))
 
   -- a remove, with the add whose value it takes: both are listed, and the one has the rank of the other
   record Served (r : ℕ) : Type 0 where
@@ -69,7 +66,11 @@ module _ {h : History} (lawful : Lawful h) {order : List ℕ} (legal : Lineariza
   adder-is {a} adds removes s = lawful .once (s .adder) a (s .adds .known) (adds .known) (s .adds .kinds) (adds .kinds) (sym (s .removes .same) ∙ removes .same)
 
   single : {r s : ℕ} → Is h remove r → Is h remove s → h .value r ≡ h .value s → r ≡ s
-  single {r} {s} first second e = go (decLt (x .removing .at) (y .removing .at)) (decLt (y .removing .at) (x .removing .at))
+  single {r} {s} first second e =
+      let not-before : x .removing .at < y .removing .at → ⊥ = λ b. omega (arith, later first (x .removing) (y .removing) b, same) in
+      let not-behind : y .removing .at < x .removing .at → ⊥ = λ b. omega (arith, later second (y .removing) (x .removing) b, same) in
+      let here : x .removing .at ≡ y .removing .at = omega arith in
+      sym (x .removing .here) ∙ ap (placed order) here ∙ y .removing .here
     where
       x : Served r
       x = served first
@@ -86,27 +87,23 @@ module _ {h : History} (lawful : Lawful h) {order : List ℕ} (legal : Lineariza
       later : {r s : ℕ} → Is h remove r → (l : Listed order r) (m : Listed order s) → l .at < m .at → rank h order remove (l .at) < rank h order remove (m .at)
       later removes l m b = rank-passed h order remove (l .at) (m .at) b (ap (h .kind) (l .here) ∙ removes .kinds)
 
-      go : Dec (x .removing .at < y .removing .at) → Dec (y .removing .at < x .removing .at) → r ≡ s
-      go (yes b) d = absurd (omega (arith, later first (x .removing) (y .removing) b, same))
-      go (no b) (yes c) = absurd (omega (arith, later second (y .removing) (x .removing) c, same))
-      go (no b) (no c) = let z : x .removing .at ≡ y .removing .at = omega arith in sym (x .removing .here) ∙ ap (placed order) z ∙ y .removing .here
+  -- the remove that has taken the value of an add
+  taken-out : {a k : ℕ} (l : Listed order a) (t : Taken h order (legal .runs) (l .at) k) → k ≤ length order → RemoveOf h a (placed order (t .at))
+  taken-out l t b = record {
+    removes = record { known = legal .known (t .at) (omega (arith, t .below)); kinds = t .removes-here };
+    same = t .same ∙ ap (h .value) (l .here);
+  }
 
-  -- of two adds, one after the other, the first is removed before the second
+  -- of two adds, one preceding the other, the first is removed, and not behind the second
   record Earlier (a r : ℕ) : Type 0 where
     remover : ℕ
     removes : RemoveOf h a remover
     kept : Precedes h r remover → ⊥
 
-  taken-out : {a k : ℕ} → Is h add a → (l : Listed order a) → (t : Taken h order (legal .runs) (l .at) k) → k ≤ length order → RemoveOf h a (placed order (t .at))
-  taken-out adds l t b = record {
-    removes = record { known = legal .known (t .at) (omega (arith, t .below)); kinds = t .removes-here };
-    same = t .same ∙ ap (h .value) (l .here);
-  }
-
   earlier : {a b r : ℕ} → Is h add a → Is h add b → Precedes h a b → RemoveOf h b r → Earlier a r
   earlier {a} {b} {r} first second before removes = record {
     remover = placed order (t .at);
-    removes = taken-out first l t (omega (arith, s .removing .below));
+    removes = taken-out l t (omega (arith, s .removing .below));
     kept = λ precedes. legal .keeps (t .at) (s .removing .at) (t .below) (s .removing .below) (rw (s .removing .here) precedes);
   }
     where
@@ -123,6 +120,7 @@ module _ {h : History} (lawful : Lawful h) {order : List ℕ} (legal : Lineariza
       t = taken h order (legal .runs) (l .at) (s .removing .at) (omega (arith, ahead, s .before)) (omega (arith, s .removing .below)) (ap (h .kind) (l .here) ∙ first .kinds)
           (omega (arith, rank-passed h order add (l .at) (s .adding .at) ahead (ap (h .kind) (l .here) ∙ first .kinds), s .ranks))
 
+  -- so none of the patterns 1 to 5 occurs
   excludes-unknown : {r : ℕ} → Unknown h r → ⊥
   excludes-unknown u = let s = served (u .removes) in u .unnamed (s .adder) (s .adds) (s .removes)
 
@@ -154,10 +152,23 @@ module _ {h : History} (lawful : Lawful h) {order : List ℕ} (legal : Lineariza
       go (inl s) = s
       go (inr none) = absurd (none k (omega arith) tt)
 
-  -- An empty remove has a gap that no value covers, the witness gap: it lies behind the latest call among the empty remove and
-  -- what is listed before it. Whatever was added up to there is listed before, and so was removed.
-  pub witness-gap : {e : ℕ} → Is h emptyRemove e → (g : ℕ) × Gap h e g × (Covered h g → ⊥)
-  witness-gap {e} empties = (g, record { from = rw (l .here) at (s .best (l .at) (omega arith) tt); until = until }, λ covered. uncovered (covered .2))
+  -- The witness gap of an empty remove: it lies behind the latest call among the empty remove and what is listed before it.
+  -- Whatever was added up to there is listed before, and so was removed: no value covers the gap.
+  pub record Witness (e : ℕ) : Type 0 where
+    pub listed : Listed order e
+    pub gap : ℕ
+    pub lies : Gap h e gap
+    pub latest : (i : ℕ) → i ≤ listed .at → h .call (placed order i) ≤ gap
+    pub uncovered : Covered h gap → ⊥
+
+  pub witness-gap : {e : ℕ} → Is h emptyRemove e → Witness e
+  witness-gap {e} empties = record {
+    listed = l;
+    gap = g;
+    lies = record { from = rw (l .here) at (s .best (l .at) (omega arith) tt); until = until };
+    latest = λ i b. s .best i (omega arith) tt;
+    uncovered = λ covered. uncovered (covered .2);
+  }
     where
       l : Listed order e
       l = legal .every e (empties .known) (lawful .returned e (empties .known) (λ z. omega (arith, empties .kinds)))
@@ -168,22 +179,14 @@ module _ {h : History} (lawful : Lawful h) {order : List ℕ} (legal : Lineariza
       g : ℕ
       g = h .call (placed order (s .at))
 
-      -- what returns before the latest call is listed before the empty remove, or is the empty remove
+      -- what returns before the latest call is listed before the empty remove
       before : {o : ℕ} → o < h .count → h .ret o ≤ h .call (placed order (s .at)) → (m : Listed order o) → m .at < l .at
-      before {o} known returns m = omega (arith, s .below, in-order (strict (lawful .apart o (placed order (s .at)) known (legal .known (s .at) there))) m (record { at = s .at; below = there; here = refl }))
-        where
-          there : s .at < length order
-          there = omega (arith, s .below, l .below)
-
-          strict : (h .ret o ≡ h .call (placed order (s .at)) → ⊥) → Precedes h o (placed order (s .at))
-          strict n = omega arith
+      before known returns m =
+          let there : s .at < length order = omega (arith, s .below, l .below) in
+          omega (arith, s .below, in-order (precedes-unless-after lawful known (legal .known (s .at) there) returns) m (record { at = s .at; below = there; here = refl }))
 
       until : g < h .ret e
-      until = go (decLt (h .call (placed order (s .at))) (h .ret e))
-        where
-          go : Dec (h .call (placed order (s .at)) < h .ret e) → h .call (placed order (s .at)) < h .ret e
-          go (yes b) = b
-          go (no b) = absurd (omega (arith, before (empties .known) (omega arith) l))
+      until = let not-before : h .ret e ≤ h .call (placed order (s .at)) → ⊥ = λ b. omega (arith, before (empties .known) b l) in omega arith
 
       uncovered : {a reach : ℕ} → Covers h a reach g → ⊥
       uncovered {a} {reach} c = go (c .reaches)
@@ -195,14 +198,14 @@ module _ {h : History} (lawful : Lawful h) {order : List ℕ} (legal : Lineariza
           t = taken-before-empty h order (legal .runs) (m .at) (l .at) (before (c .adds .known) (c .from) m) (l .below) (ap (h .kind) (m .here) ∙ c .adds .kinds) (ap (h .kind) (l .here) ∙ empties .kinds)
 
           out : RemoveOf h a (placed order (t .at))
-          out = taken-out (c .adds) m t (omega (arith, l .below))
+          out = taken-out m t (omega (arith, l .below))
 
           go : Reaches h a reach → ⊥
           go (removed r removes at) = omega (arith, at, c .until, s .best (t .at) (omega (arith, t .below)) tt, ap (h .call) (single (out .removes) (removes .removes) (out .same ∙ sym (removes .same))))
           go (never n at) = n (placed order (t .at), out)
 
   excludes-false-empty : {e : ℕ} {chain : List ℕ} → FalseEmpty h e chain → ⊥
-  excludes-false-empty f = let (g, gap, uncovered) = witness-gap (f .empties) in uncovered (f .covered g gap)
+  excludes-false-empty f = let w = witness-gap (f .empties) in w .uncovered (f .covered (w .gap) (w .lies))
 
 -- the theorem: no pattern occurs where there is a legal order
 pub excluded : {h : History} → Lawful h → {order : List ℕ} → Linearization h order → {n : ℕ} {listed : List ℕ} → Occurs h n listed → ⊥

@@ -1,16 +1,33 @@
--- The theorems of this crate, for everything above. The histories of readable logs are lawful (`history-lawful` of the crate
--- history), so all of this holds of every readable log.
+-- The theorems of this crate, for everything above: stated here, or passed on from the file that proves them. The histories of
+-- readable logs are lawful (`history-lawful` of the crate history), so all of this holds of every readable log.
 use Prim.Native.Nat.{ℕ}
+use native.Mathlib.Omega.{arith}
 use mathlib.Core.Path.{_≡_, refl}
 use mathlib.Core.Logic.{_⊎_, inl, inr, _↔_}
 use mathlib.Core.List.{List}
 use Rattle.history.specs.History.{History, Lawful}
 use Rattle.history.specs.Linearization.{Linearization}
+use Rattle.history.specs.Sheet.{orderVerdict}
 use Rattle.violations.specs.Violations.{NoViolation}
-use Rattle.violations.specs.Verdict.{Verdict}
-use Rattle.violations.proofs.Deciding.{SomeViolation, first-violation, first-violation-one}
-use Rattle.violations.proofs.Excluding.{excluded}
-use Rattle.violations.proofs.Constructing.{order-exists}
+use Rattle.violations.specs.Verdict.{JudgedOrder, Verdict}
+use Rattle.violations.proofs.Occurrences.{occurs-numbered}
+-- "The lowest number that occurs is reported. Among its occurrences the lowest list": there is such an answer where a pattern
+-- occurs, and two answers that meet this are equal.
+pub use Rattle.violations.proofs.Deciding.{SomeViolation, first-violation, first-violation-one}
+-- An empty remove has all its gaps covered exactly if there is a chain, and there is only one.
+pub use Rattle.violations.proofs.Chains.{chained-exactly, chain-one}
+-- A legal order rules every pattern out, and gives each empty remove a witness gap.
+pub use Rattle.violations.proofs.Excluding.{Witness, witness-gap, excluded}
+-- The search for an order: it starts, may place whatever is placeable, goes on while something is left, and ends with a legal
+-- order that lists an open add exactly if its value was removed; and which tables serve it.
+pub use Rattle.violations.proofs.Placing.{search-starts, search-places, search-ends}
+pub use Rattle.violations.proofs.Progress.{search-goes-on}
+pub use Rattle.violations.proofs.Constructing.{matched, sound, order-exists}
+-- Parts of a history, and histories that are alike.
+pub use Rattle.violations.proofs.Filtering.{part-order}
+pub use Rattle.violations.proofs.Matching.{part-violations}
+pub use Rattle.violations.proofs.Parts.{part-covered, part-keeps, part-verdict}
+pub use Rattle.violations.proofs.Alike.{alike-sym, alike-part, alike-verdict}
 
 module _ {h : History} (lawful : Lawful h) where
   -- A legal order exists exactly if no pattern occurs.
@@ -23,11 +40,16 @@ module _ {h : History} (lawful : Lawful h) where
     where
       go : SomeViolation h ⊎ NoViolation h → (byte : ℕ) × (listed : List ℕ) × Verdict h byte listed
       go (inl (n, listed, first)) = (n, listed, Verdict.violation first)
-      go (inr clean) = let (order, judged) = order-exists lawful clean in (0, order, Verdict.order judged)
+      go (inr clean) = let (order, judged) = order-exists lawful clean in (orderVerdict, order, Verdict.order judged)
 
   -- It has only one: two verdicts agree in the verdict byte and, with a pattern, in the operations that they list.
-  pub verdict-one : {m n : ℕ} {xs ys : List ℕ} → Verdict h m xs → Verdict h n ys → (m ≡ n) × ((m ≡ 0 → ⊥) → xs ≡ ys)
+  pub verdict-one : {m n : ℕ} {xs ys : List ℕ} → Verdict h m xs → Verdict h n ys → (m ≡ n) × ((m ≡ orderVerdict → ⊥) → xs ≡ ys)
   verdict-one (Verdict.order x) (Verdict.order y) = (refl, λ pattern. absurd (pattern refl))
   verdict-one (Verdict.order x) (Verdict.violation y) = absurd (excluded lawful (x .legal) (y .occurs))
   verdict-one (Verdict.violation x) (Verdict.order y) = absurd (excluded lawful (y .legal) (x .occurs))
   verdict-one (Verdict.violation x) (Verdict.violation y) = let (number, list) = first-violation-one x y in (number, λ pattern. list)
+
+-- The verdict byte 0 is that of an order.
+pub zero-is-order : {h : History} {byte : ℕ} {listed : List ℕ} → Verdict h byte listed → byte ≡ orderVerdict → JudgedOrder h listed
+zero-is-order (Verdict.order x) e = x
+zero-is-order (Verdict.violation x) e = absurd (omega (arith, occurs-numbered (x .occurs)))

@@ -4,12 +4,15 @@ pub mod Choosing
 pub mod Constructing
 pub mod Deciding
 pub mod Excluding
+pub mod Filtering
 pub mod Laws
 pub mod Lists
 pub mod Lowest
+pub mod Matching
 pub mod Occurrences
 pub mod Pairing
 pub mod Parts
 pub mod Placing
+pub mod Precedence
 pub mod Progress
 pub mod Rows

@@ -4,8 +4,8 @@ use native.Mathlib.Omega.{arith}
 use mathlib.Core.List.{List, [], _∷_}
 use lib.ListN.{getD}
 use Rattle.history.specs.History.{History, add, remove}
-use Rattle.history.specs.Runs.{Each}
-use Rattle.violations.specs.Violations.{Is, Occurs, unknown, twice, early, stuck, overtaken, falseEmpty}
+use Rattle.history.specs.Each.{Each}
+use Rattle.violations.specs.Violations.{Is, Chain, all, link, Occurs, unknown, twice, early, stuck, overtaken, falseEmpty}
 
 -- The operations of a list are of these kinds, one after the other.
 abbrev pub OfKinds : History → List ℕ → List ℕ → Type 0
@@ -13,13 +13,6 @@ OfKinds h [] [] = Unit {0}
 OfKinds h [] (o ∷ os) = ⊥
 OfKinds h (k ∷ ks) [] = ⊥
 OfKinds h (k ∷ ks) (o ∷ os) = Is h k o × OfKinds h ks os
-
--- they are operations of the history
-pub of-kinds-known : (h : History) (kinds listed : List ℕ) → OfKinds h kinds listed → Each (λ o. o < h .count) listed
-of-kinds-known h [] [] k = tt
-of-kinds-known h [] (o ∷ listed) k = absurd k
-of-kinds-known h (kind ∷ kinds) [] k = absurd k
-of-kinds-known h (kind ∷ kinds) (o ∷ listed) k = (k .0 .known, of-kinds-known h kinds listed (k .1))
 
 -- the kinds of the operations that the patterns 1 to 5 list
 abbrev pub kindsOf : ℕ → List ℕ
@@ -34,8 +27,21 @@ occurs-of-kinds l (stuck t) = (t .first, (t .second, (t .removes .removes, tt)))
 occurs-of-kinds l (overtaken t) = (t .first, (t .second, (t .removes .removes, (t .removes-first .removes, tt))))
 occurs-of-kinds l (falseEmpty t) = absurd (omega arith)
 
+-- what occurs lists operations of the history
+chain-known : {h : History} {return g : ℕ} {chain : List ℕ} → Chain h return g chain → Each (λ o. o < h .count) chain
+chain-known (all l) = tt
+chain-known (link l f rest) = (f .covers .adds .known, chain-known rest)
+
+pub occurs-known : {h : History} {n : ℕ} {listed : List ℕ} → Occurs h n listed → Each (λ o. o < h .count) listed
+occurs-known (unknown u) = (u .removes .known, tt)
+occurs-known (twice t) = (t .first .known, (t .second .known, tt))
+occurs-known (early t) = (t .removes .removes .known, (t .adds .known, tt))
+occurs-known (stuck t) = (t .first .known, (t .second .known, (t .removes .removes .known, tt)))
+occurs-known (overtaken t) = (t .first .known, (t .second .known, (t .removes .removes .known, (t .removes-first .removes .known, tt))))
+occurs-known (falseEmpty t) = (t .empties .known, chain-known (t .chained))
+
 -- what occurs is one of the six patterns
-pub occurs-numbered : {h : History} {n : ℕ} {listed : List ℕ} → Occurs h n listed → n < 7
+pub occurs-numbered : {h : History} {n : ℕ} {listed : List ℕ} → Occurs h n listed → (0 < n) × (n < 7)
 occurs-numbered (unknown u) = omega arith
 occurs-numbered (twice t) = omega arith
 occurs-numbered (early t) = omega arith

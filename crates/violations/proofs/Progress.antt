@@ -13,6 +13,7 @@ use Rattle.violations.specs.Violations.{Is, RemoveOf, Reaches, removed, 
 use Rattle.violations.specs.Search.{Matched, Sound, Due, Left, Enabled, enqueues, dequeues, meets-empty, Placeable, Queued, Searched}
 use Rattle.violations.proofs.Lists.{listed-first}
 use Rattle.violations.proofs.Choosing.{Best, best, lesser}
+use Rattle.violations.proofs.Precedence.{precedes-unless-after}
 use Rattle.violations.proofs.Placing.{left-alone}
 
 module _ {h : History} {reach : ℕ → ℕ} (lawful : Lawful h) (matched : Matched h reach) where
@@ -111,24 +112,12 @@ module _ {h : History} {reach gap : ℕ → ℕ} (lawful : Lawful h) (sound : So
           adding = record { known = left .due .known; kinds = k }
 
           behind : (b r : ℕ) → Is h add b → Left h order b → h .ret p ≤ h .call b → RemoveOf h b r → reach p < h .ret r
-          behind b r is l after = sound .in-turn p b r adding is (strict (lawful .apart p b (adding .known) (is .known)))
-            where
-              strict : (h .ret p ≡ h .call b → ⊥) → h .ret p < h .call b
-              strict n = omega arith
+          behind b r is l after = sound .in-turn p b r adding is (precedes-unless-after lawful (adding .known) (is .known) after)
 
           gaps : (e : ℕ) → Is h emptyRemove e → Left h order e → reach p ≤ gap e
-          gaps e is l = go (decLt (gap e) (reach p))
-            where
-              go : Dec (gap e < reach p) → reach p ≤ gap e
-              go (yes b) = absurd (sound .uncovered e is (p, reach p, record { adds = adding; reaches = sound .matched .reaches p adding; from = empty e is l; until = b }))
-              go (no b) = omega arith
-
-      -- an enabled remove or empty remove that the queue is ready for
-      place-remove : {a r : ℕ} {rest : List ℕ} → queue ≡ a ∷ rest → RemoveOf h a r → Left h order r → h .call r < h .ret p → Next
-      place-remove {r = r} {rest = rest} e out l before = rw e (r, rest, record { enabled = enabled l before; serves = dequeues out })
-
-      place-empty : queue ≡ [] → {e : ℕ} → Candidate emptyRemove e → Next
-      place-empty e candidate = rw e (_, [], record { enabled = enabled (candidate .is-left) (candidate .before); serves = meets-empty (candidate .kinds) })
+          gaps e is l =
+              let not-below : gap e < reach p → ⊥ = λ b. sound .uncovered e is (p, reach p, record { adds = adding; reaches = sound .matched .reaches p adding; from = empty e is l; until = b }) in
+              omega arith
 
       -- the add of p, if p is a remove: it is left or in the queue
       record Adder : Type 0 where
@@ -150,7 +139,7 @@ module _ {h : History} {reach gap : ℕ → ℕ} (lawful : Lawful h) (sound : So
         front = s .added a (record { at = 0; below = omega arith; here = refl })
 
         go : Reaches h a (reach a) → Next s
-        go (removed r out e) = place-remove s refl out (s .served a r (front .0) out .1 (inr (record { at = 0; below = omega arith; here = refl }))) (omega arith)
+        go (removed r out e) = (r, rest, record { enabled = enabled (s .served a r (front .0) out .1 (inr (record { at = 0; below = omega arith; here = refl }))) (omega arith); serves = dequeues out })
         go (never n e) = absurd (omega (arith, lawful .ends p (left .due .known)))
 
     -- Otherwise p is an add: the front blocks no remove and no empty remove.
@@ -180,11 +169,9 @@ module _ {h : History} {reach gap : ℕ → ℕ} (lawful : Lawful h) (sound : So
     next-empty s = go (lowest (Candidate emptyRemove) (candidate? emptyRemove) (h .count))
       where
         later : None (Candidate emptyRemove) (h .count) → (e : ℕ) → Is h emptyRemove e → Left h order e → h .ret p ≤ gap e
-        later none e is l = by (decLt (h .call e) (h .ret p))
-          where
-            by : Dec (h .call e < h .ret p) → h .ret p ≤ gap e
-            by (yes b) = absurd (none e (is .known) (record { kinds = is .kinds; before = b; is-left = l }))
-            by (no b) = omega (arith, sound .gaps e is .from)
+        later none e is l =
+            let not-before : h .call e < h .ret p → ⊥ = λ b. none e (is .known) (record { kinds = is .kinds; before = b; is-left = l }) in
+            omega (arith, sound .gaps e is .from)
 
         -- the add of a remove that returns first
         timely : None (Candidate emptyRemove) (h .count) → Adder s → Next s
@@ -201,24 +188,21 @@ module _ {h : History} {reach gap : ℕ → ℕ} (lawful : Lawful h) (sound : So
         by-kind none (no n) (no m) = absurd (none p (left .due .known) (record { kinds = omega (arith, lawful .kinds p (left .due .known)); before = lawful .spans p (left .due .known); is-left = left }))
 
         go : Lowest (Candidate emptyRemove) (h .count) ⊎ None (Candidate emptyRemove) (h .count) → Next s
-        go (inl e) = place-empty s refl (e .holds)
+        go (inl e) = (e .at, [], record { enabled = enabled (e .holds .is-left) (e .holds .before); serves = meets-empty (e .holds .kinds) })
         go (inr none) = by-kind none (ℕ-discrete (h .kind p) add) (ℕ-discrete (h .kind p) remove)
 
-    next : {queue : List ℕ} (s : Queued h reach gap order queue) → Next s
-    next {queue} s = by queue s
+    next : (queue : List ℕ) (s : Queued h reach gap order queue) → Next s
+    next [] s = next-empty s
+    next (a ∷ rest) s = go (decLt (reach a) (h .ret p))
       where
-        by : (queue : List ℕ) (s : Queued h reach gap order queue) → Next s
-        by [] s = next-empty s
-        by (a ∷ rest) s = front (decLt (reach a) (h .ret p))
-          where
-            front : Dec (reach a < h .ret p) → Next s
-            front (yes b) = next-removed s b
-            front (no b) = next-added s (omega arith)
+        go : Dec (reach a < h .ret p) → Next s
+        go (yes b) = next-removed s b
+        go (no b) = next-added s (omega arith)
 
   -- while something is left, something is placeable
   pub search-goes-on : {queue : List ℕ} → Searched h reach gap order queue → {o : ℕ} → Left h order o → (p : ℕ) × (queue' : List ℕ) × Placeable h reach gap order queue p queue'
   search-goes-on {queue} s {o} l = go (best (Left h order) (λ q r. h .ret q ≤ h .ret r) (lesser (h .ret)) (left? lawful (sound .matched) order) (h .count))
     where
       go : Best (Left h order) (λ q r. h .ret q ≤ h .ret r) (h .count) ⊎ None (Left h order) (h .count) → (p : ℕ) × (queue' : List ℕ) × Placeable h reach gap order queue p queue'
-      go (inl p) = next (p .holds) (λ q m. p .best q (m .due .known) m) (s .queued)
+      go (inl p) = next (p .holds) (λ q m. p .best q (m .due .known) m) queue (s .queued)
       go (inr none) = absurd (none o (l .due .known) l)

@@ -1,5 +1,6 @@
 -- Document 01, "Runs": the runs marked *, in the document's order, with the verdict that it gives for each. A second table
--- shows which pattern is reported and which operations it lists. What a run and a row are is said in the crate history.
+-- shows what is reported where the starred runs leave it open: other patterns, several occurrences, ties, open adds. What a run
+-- and a row are is said in the crate history.
 use Prim.Native.Nat.{ℕ}
 use mathlib.Core.List.{List, [], _∷_}
 use Rattle.reader.specs.declared.record.Removed.the-variants.{Value, Empty}
@@ -11,12 +12,12 @@ use Rattle.violations.specs.Verdict.{FirstViolation, JudgedOrder}
 -- the verdict that document 01 gives for a run: an order, or a pattern with the operations that it lists
 pub data Expected : Type 0 where
   order : List ℕ → Expected
-  pattern : ℕ → List ℕ → Expected
+  violation : ℕ → List ℕ → Expected
 
 -- What document 01 says of a run's verdict is right for a history.
 abbrev pub Judged : History → Expected → Type 0
 Judged h (order listed) = JudgedOrder h listed
-Judged h (pattern number listed) = FirstViolation h number listed
+Judged h (violation number listed) = FirstViolation h number listed
 
 abbrev pub runs : List (Row Expected)
 runs =
@@ -27,53 +28,57 @@ runs =
     -- R( A7( R7) A7): order 1 0
     record { run = (0, CallRemove) ∷ (1, CallAdd 7) ∷ (0, ReturnRemove (Value 7)) ∷ (1, ReturnAdd) ∷ []; says = order (1 ∷ 0 ∷ []) } ∷
     -- R( R7) A7( A7): pattern 3, 0 1
-    record { run = (0, CallRemove) ∷ (0, ReturnRemove (Value 7)) ∷ (1, CallAdd 7) ∷ (1, ReturnAdd) ∷ []; says = pattern 3 (0 ∷ 1 ∷ []) } ∷
+    record { run = (0, CallRemove) ∷ (0, ReturnRemove (Value 7)) ∷ (1, CallAdd 7) ∷ (1, ReturnAdd) ∷ []; says = violation 3 (0 ∷ 1 ∷ []) } ∷
     -- A7( R( R-): order 1
     record { run = (0, CallAdd 7) ∷ (1, CallRemove) ∷ (1, ReturnRemove Empty) ∷ []; says = order (1 ∷ []) } ∷
     -- A1( A1) A2( A2) R( R2): pattern 4, 0 1 2
-    record { run = (0, CallAdd 1) ∷ (0, ReturnAdd) ∷ (1, CallAdd 2) ∷ (1, ReturnAdd) ∷ (2, CallRemove) ∷ (2, ReturnRemove (Value 2)) ∷ []; says = pattern 4 (0 ∷ 1 ∷ 2 ∷ []) } ∷
+    record { run = (0, CallAdd 1) ∷ (0, ReturnAdd) ∷ (1, CallAdd 2) ∷ (1, ReturnAdd) ∷ (2, CallRemove) ∷ (2, ReturnRemove (Value 2)) ∷ []; says = violation 4 (0 ∷ 1 ∷ 2 ∷ []) } ∷
     -- A1( A2( A1) A2) R( R2): order 1 0 2
     record { run = (0, CallAdd 1) ∷ (1, CallAdd 2) ∷ (0, ReturnAdd) ∷ (1, ReturnAdd) ∷ (2, CallRemove) ∷ (2, ReturnRemove (Value 2)) ∷ []; says = order (1 ∷ 0 ∷ 2 ∷ []) } ∷
     -- A1( A1) A2( A2) R( R2) R( R1): pattern 5, 0 1 2 3
-    record { run = (0, CallAdd 1) ∷ (0, ReturnAdd) ∷ (1, CallAdd 2) ∷ (1, ReturnAdd) ∷ (2, CallRemove) ∷ (2, ReturnRemove (Value 2)) ∷ (3, CallRemove) ∷ (3, ReturnRemove (Value 1)) ∷ []; says = pattern 5 (0 ∷ 1 ∷ 2 ∷ 3 ∷ []) } ∷
+    record { run = (0, CallAdd 1) ∷ (0, ReturnAdd) ∷ (1, CallAdd 2) ∷ (1, ReturnAdd) ∷ (2, CallRemove) ∷ (2, ReturnRemove (Value 2)) ∷ (3, CallRemove) ∷ (3, ReturnRemove (Value 1)) ∷ []; says = violation 5 (0 ∷ 1 ∷ 2 ∷ 3 ∷ []) } ∷
     -- A1( A1) A2( A2) Ra( Rb( Ra2) Rb1): order 0 1 3 2
     record { run = (0, CallAdd 1) ∷ (0, ReturnAdd) ∷ (1, CallAdd 2) ∷ (1, ReturnAdd) ∷ (2, CallRemove) ∷ (3, CallRemove) ∷ (2, ReturnRemove (Value 2)) ∷ (3, ReturnRemove (Value 1)) ∷ []; says = order (0 ∷ 1 ∷ 3 ∷ 2 ∷ []) } ∷
     -- A1( A1) Ra( A2( A2) Rb( Rb1) Ra-) R( R2): pattern 6, 1 0 2
-    record { run = (0, CallAdd 1) ∷ (0, ReturnAdd) ∷ (1, CallRemove) ∷ (2, CallAdd 2) ∷ (2, ReturnAdd) ∷ (3, CallRemove) ∷ (3, ReturnRemove (Value 1)) ∷ (1, ReturnRemove Empty) ∷ (4, CallRemove) ∷ (4, ReturnRemove (Value 2)) ∷ []; says = pattern 6 (1 ∷ 0 ∷ 2 ∷ []) } ∷
+    record { run = (0, CallAdd 1) ∷ (0, ReturnAdd) ∷ (1, CallRemove) ∷ (2, CallAdd 2) ∷ (2, ReturnAdd) ∷ (3, CallRemove) ∷ (3, ReturnRemove (Value 1)) ∷ (1, ReturnRemove Empty) ∷ (4, CallRemove) ∷ (4, ReturnRemove (Value 2)) ∷ []; says = violation 6 (1 ∷ 0 ∷ 2 ∷ []) } ∷
     -- A1( A1) Ra( A2( Rb( A2) Rb1) Ra-) R( R2): order 0 3 1 2 4
     record { run = (0, CallAdd 1) ∷ (0, ReturnAdd) ∷ (1, CallRemove) ∷ (2, CallAdd 2) ∷ (3, CallRemove) ∷ (2, ReturnAdd) ∷ (3, ReturnRemove (Value 1)) ∷ (1, ReturnRemove Empty) ∷ (4, CallRemove) ∷ (4, ReturnRemove (Value 2)) ∷ []; says = order (0 ∷ 3 ∷ 1 ∷ 2 ∷ 4 ∷ []) } ∷
     -- A0( A0) R( R-): pattern 6, 1 0
-    record { run = (0, CallAdd 0) ∷ (0, ReturnAdd) ∷ (1, CallRemove) ∷ (1, ReturnRemove Empty) ∷ []; says = pattern 6 (1 ∷ 0 ∷ []) } ∷
+    record { run = (0, CallAdd 0) ∷ (0, ReturnAdd) ∷ (1, CallRemove) ∷ (1, ReturnRemove Empty) ∷ []; says = violation 6 (1 ∷ 0 ∷ []) } ∷
     []
 
 abbrev pub picks : List (Row Expected)
 picks =
     -- R( R9): pattern 1, 0
-    record { run = (0, CallRemove) ∷ (0, ReturnRemove (Value 9)) ∷ []; says = pattern 1 (0 ∷ []) } ∷
+    record { run = (0, CallRemove) ∷ (0, ReturnRemove (Value 9)) ∷ []; says = violation 1 (0 ∷ []) } ∷
     -- A7( A7) R( R7) R( R7): pattern 2, 1 2
-    record { run = (0, CallAdd 7) ∷ (0, ReturnAdd) ∷ (1, CallRemove) ∷ (1, ReturnRemove (Value 7)) ∷ (2, CallRemove) ∷ (2, ReturnRemove (Value 7)) ∷ []; says = pattern 2 (1 ∷ 2 ∷ []) } ∷
+    record { run = (0, CallAdd 7) ∷ (0, ReturnAdd) ∷ (1, CallRemove) ∷ (1, ReturnRemove (Value 7)) ∷ (2, CallRemove) ∷ (2, ReturnRemove (Value 7)) ∷ []; says = violation 2 (1 ∷ 2 ∷ []) } ∷
     -- A7( R( R7): order 0 1, with the open add, since its value was removed
     record { run = (0, CallAdd 7) ∷ (1, CallRemove) ∷ (1, ReturnRemove (Value 7)) ∷ []; says = order (0 ∷ 1 ∷ []) } ∷
     -- A1( A1) A2( R( R2): the open add may be add b, pattern 4, 0 1 2
-    record { run = (0, CallAdd 1) ∷ (0, ReturnAdd) ∷ (1, CallAdd 2) ∷ (2, CallRemove) ∷ (2, ReturnRemove (Value 2)) ∷ []; says = pattern 4 (0 ∷ 1 ∷ 2 ∷ []) } ∷
+    record { run = (0, CallAdd 1) ∷ (0, ReturnAdd) ∷ (1, CallAdd 2) ∷ (2, CallRemove) ∷ (2, ReturnRemove (Value 2)) ∷ []; says = violation 4 (0 ∷ 1 ∷ 2 ∷ []) } ∷
     -- R( R7) A7(: the open add is behind its remove, pattern 3, 0 1
-    record { run = (0, CallRemove) ∷ (0, ReturnRemove (Value 7)) ∷ (1, CallAdd 7) ∷ []; says = pattern 3 (0 ∷ 1 ∷ []) } ∷
+    record { run = (0, CallRemove) ∷ (0, ReturnRemove (Value 7)) ∷ (1, CallAdd 7) ∷ []; says = violation 3 (0 ∷ 1 ∷ []) } ∷
     -- A0( A0) Ra( Ra-) Rb( Rb9): both 1 and 6 occur, pattern 1, 2
-    record { run = (0, CallAdd 0) ∷ (0, ReturnAdd) ∷ (1, CallRemove) ∷ (1, ReturnRemove Empty) ∷ (2, CallRemove) ∷ (2, ReturnRemove (Value 9)) ∷ []; says = pattern 1 (2 ∷ []) } ∷
+    record { run = (0, CallAdd 0) ∷ (0, ReturnAdd) ∷ (1, CallRemove) ∷ (1, ReturnRemove Empty) ∷ (2, CallRemove) ∷ (2, ReturnRemove (Value 9)) ∷ []; says = violation 1 (2 ∷ []) } ∷
     -- Ra( Ra9) Rb( Rb8): two removes are unknown, pattern 1, 0
-    record { run = (0, CallRemove) ∷ (0, ReturnRemove (Value 9)) ∷ (1, CallRemove) ∷ (1, ReturnRemove (Value 8)) ∷ []; says = pattern 1 (0 ∷ []) } ∷
+    record { run = (0, CallRemove) ∷ (0, ReturnRemove (Value 9)) ∷ (1, CallRemove) ∷ (1, ReturnRemove (Value 8)) ∷ []; says = violation 1 (0 ∷ []) } ∷
     -- A7( A7) Ra( Ra7) Rb( Rb7) Rc( Rc7): three removes are of one value, pattern 2, 1 2
-    record { run = (0, CallAdd 7) ∷ (0, ReturnAdd) ∷ (1, CallRemove) ∷ (1, ReturnRemove (Value 7)) ∷ (2, CallRemove) ∷ (2, ReturnRemove (Value 7)) ∷ (3, CallRemove) ∷ (3, ReturnRemove (Value 7)) ∷ []; says = pattern 2 (1 ∷ 2 ∷ []) } ∷
+    record { run = (0, CallAdd 7) ∷ (0, ReturnAdd) ∷ (1, CallRemove) ∷ (1, ReturnRemove (Value 7)) ∷ (2, CallRemove) ∷ (2, ReturnRemove (Value 7)) ∷ (3, CallRemove) ∷ (3, ReturnRemove (Value 7)) ∷ []; says = violation 2 (1 ∷ 2 ∷ []) } ∷
+    -- Ra( Ra1) Rb( Rb2) A2( A2) A1( A1): both removes are early, pattern 3, 0 3
+    record { run = (0, CallRemove) ∷ (0, ReturnRemove (Value 1)) ∷ (1, CallRemove) ∷ (1, ReturnRemove (Value 2)) ∷ (2, CallAdd 2) ∷ (2, ReturnAdd) ∷ (3, CallAdd 1) ∷ (3, ReturnAdd) ∷ []; says = violation 3 (0 ∷ 3 ∷ []) } ∷
     -- A1( A1) A2( A2) A3( A3) R( R3): 1 and 2 are stuck before 3, pattern 4, 0 2 3
-    record { run = (0, CallAdd 1) ∷ (0, ReturnAdd) ∷ (1, CallAdd 2) ∷ (1, ReturnAdd) ∷ (2, CallAdd 3) ∷ (2, ReturnAdd) ∷ (3, CallRemove) ∷ (3, ReturnRemove (Value 3)) ∷ []; says = pattern 4 (0 ∷ 2 ∷ 3 ∷ []) } ∷
+    record { run = (0, CallAdd 1) ∷ (0, ReturnAdd) ∷ (1, CallAdd 2) ∷ (1, ReturnAdd) ∷ (2, CallAdd 3) ∷ (2, ReturnAdd) ∷ (3, CallRemove) ∷ (3, ReturnRemove (Value 3)) ∷ []; says = violation 4 (0 ∷ 2 ∷ 3 ∷ []) } ∷
     -- A1( A1) A2( A2) A3( A3) Ra( Ra3) Rb( Rb2) Rc( Rc1): each overtakes those before it, pattern 5, 0 1 4 5
-    record { run = (0, CallAdd 1) ∷ (0, ReturnAdd) ∷ (1, CallAdd 2) ∷ (1, ReturnAdd) ∷ (2, CallAdd 3) ∷ (2, ReturnAdd) ∷ (3, CallRemove) ∷ (3, ReturnRemove (Value 3)) ∷ (4, CallRemove) ∷ (4, ReturnRemove (Value 2)) ∷ (5, CallRemove) ∷ (5, ReturnRemove (Value 1)) ∷ []; says = pattern 5 (0 ∷ 1 ∷ 4 ∷ 5 ∷ []) } ∷
+    record { run = (0, CallAdd 1) ∷ (0, ReturnAdd) ∷ (1, CallAdd 2) ∷ (1, ReturnAdd) ∷ (2, CallAdd 3) ∷ (2, ReturnAdd) ∷ (3, CallRemove) ∷ (3, ReturnRemove (Value 3)) ∷ (4, CallRemove) ∷ (4, ReturnRemove (Value 2)) ∷ (5, CallRemove) ∷ (5, ReturnRemove (Value 1)) ∷ []; says = violation 5 (0 ∷ 1 ∷ 4 ∷ 5 ∷ []) } ∷
+    -- A1( A1) Ra( A0( A0) Rb( Ra-) Rb1): 1 covers all gaps but the one behind its remove's call, pattern 6, 1 0 2
+    record { run = (0, CallAdd 1) ∷ (0, ReturnAdd) ∷ (1, CallRemove) ∷ (2, CallAdd 0) ∷ (2, ReturnAdd) ∷ (3, CallRemove) ∷ (1, ReturnRemove Empty) ∷ (3, ReturnRemove (Value 1)) ∷ []; says = violation 6 (1 ∷ 0 ∷ 2 ∷ []) } ∷
     -- A1( A2( A1) A2) Re( Re-) Ra( Ra1) Rb( Rb2): 2 reaches further, though not within the empty remove, pattern 6, 2 1
-    record { run = (0, CallAdd 1) ∷ (1, CallAdd 2) ∷ (0, ReturnAdd) ∷ (1, ReturnAdd) ∷ (2, CallRemove) ∷ (2, ReturnRemove Empty) ∷ (3, CallRemove) ∷ (3, ReturnRemove (Value 1)) ∷ (4, CallRemove) ∷ (4, ReturnRemove (Value 2)) ∷ []; says = pattern 6 (2 ∷ 1 ∷ []) } ∷
+    record { run = (0, CallAdd 1) ∷ (1, CallAdd 2) ∷ (0, ReturnAdd) ∷ (1, ReturnAdd) ∷ (2, CallRemove) ∷ (2, ReturnRemove Empty) ∷ (3, CallRemove) ∷ (3, ReturnRemove (Value 1)) ∷ (4, CallRemove) ∷ (4, ReturnRemove (Value 2)) ∷ []; says = violation 6 (2 ∷ 1 ∷ []) } ∷
     -- A1( A1) A2( A2) Re( Re-) Ra( Ra1): 2 is never removed and reaches furthest, pattern 6, 2 1
-    record { run = (0, CallAdd 1) ∷ (0, ReturnAdd) ∷ (1, CallAdd 2) ∷ (1, ReturnAdd) ∷ (2, CallRemove) ∷ (2, ReturnRemove Empty) ∷ (3, CallRemove) ∷ (3, ReturnRemove (Value 1)) ∷ []; says = pattern 6 (2 ∷ 1 ∷ []) } ∷
+    record { run = (0, CallAdd 1) ∷ (0, ReturnAdd) ∷ (1, CallAdd 2) ∷ (1, ReturnAdd) ∷ (2, CallRemove) ∷ (2, ReturnRemove Empty) ∷ (3, CallRemove) ∷ (3, ReturnRemove (Value 1)) ∷ []; says = violation 6 (2 ∷ 1 ∷ []) } ∷
     -- A1( A1) A2( A2) R( R-): neither is removed, the lowest add, pattern 6, 2 0
-    record { run = (0, CallAdd 1) ∷ (0, ReturnAdd) ∷ (1, CallAdd 2) ∷ (1, ReturnAdd) ∷ (2, CallRemove) ∷ (2, ReturnRemove Empty) ∷ []; says = pattern 6 (2 ∷ 0 ∷ []) } ∷
+    record { run = (0, CallAdd 1) ∷ (0, ReturnAdd) ∷ (1, CallAdd 2) ∷ (1, ReturnAdd) ∷ (2, CallRemove) ∷ (2, ReturnRemove Empty) ∷ []; says = violation 6 (2 ∷ 0 ∷ []) } ∷
     -- A1( A1) Ra( Ra-) Rb( Rb-): both are false, the lowest empty remove, pattern 6, 1 0
-    record { run = (0, CallAdd 1) ∷ (0, ReturnAdd) ∷ (1, CallRemove) ∷ (1, ReturnRemove Empty) ∷ (2, CallRemove) ∷ (2, ReturnRemove Empty) ∷ []; says = pattern 6 (1 ∷ 0 ∷ []) } ∷
+    record { run = (0, CallAdd 1) ∷ (0, ReturnAdd) ∷ (1, CallRemove) ∷ (1, ReturnRemove Empty) ∷ (2, CallRemove) ∷ (2, ReturnRemove Empty) ∷ []; says = violation 6 (1 ∷ 0 ∷ []) } ∷
     []

@@ -10,20 +10,20 @@ use Rattle.history.specs.History.{History, add, remove, emptyRemove, Returned, 
 use Rattle.history.specs.Linearization.{Fifo, placed, Listed}
 use Rattle.violations.specs.Violations.{Is, RemoveOf, Removed, Gap, Reaches, Covered}
 
--- Patterns 1 and 2 do not occur: each remove has its add, and no other remove has its value.
+-- The table `reach` is right, and patterns 1 and 2 do not occur: each remove has its add, and no other remove has its value.
 pub record Matched (h : History) (reach : ℕ → ℕ) : Type 0 where
   pub reaches : (a : ℕ) → Is h add a → Reaches h a (reach a)
   pub named : (r : ℕ) → Is h remove r → (a : ℕ) × Is h add a × RemoveOf h a r
   pub single : (r s : ℕ) → Is h remove r → Is h remove s → h .value r ≡ h .value s → r ≡ s
 
--- Patterns 3 to 6 do not occur either.
+-- Patterns 3 to 6 do not occur either, and the table `gap` tells for each empty remove a gap that no value covers.
 pub record Sound (h : History) (reach gap : ℕ → ℕ) : Type 0 where
   pub matched : Matched h reach
   -- 3: an add is called before its remove returns
   pub timely : (a r : ℕ) → Is h add a → RemoveOf h a r → h .call a < h .ret r
   -- 4 and 5: the value of an add that precedes another is removed before the other's remove returns
   pub in-turn : (a b r : ℕ) → Is h add a → Is h add b → Precedes h a b → RemoveOf h b r → reach a < h .ret r
-  -- 6: an empty remove has a gap that no value covers
+  -- 6: each empty remove has a gap that no value covers
   pub gaps : (e : ℕ) → Is h emptyRemove e → Gap h e (gap e)
   pub uncovered : (e : ℕ) → Is h emptyRemove e → Covered h (gap e) → ⊥
 

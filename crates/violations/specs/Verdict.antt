@@ -5,6 +5,7 @@ use mathlib.Core.Logic.{_↔_}
 use mathlib.Core.List.{List, [], _∷_}
 use Rattle.history.specs.History.{History, Returned}
 use Rattle.history.specs.Linearization.{Listed, Linearization}
+use Rattle.history.specs.Sheet.{orderVerdict}
 use Rattle.violations.specs.Violations.{Removed, Occurs}
 
 -- one list is lower than another, "compared left to right"
@@ -27,5 +28,5 @@ pub record JudgedOrder (h : History) (order : List ℕ) : Type 0 where
 
 -- A verdict: the verdict byte, "0 for an order or the pattern number", and the operations that the sheet lists.
 pub data Verdict (h : History) : ℕ → List ℕ → Type 0 where
-  order : {listed : List ℕ} → JudgedOrder h listed → Verdict h 0 listed
+  order : {listed : List ℕ} → JudgedOrder h listed → Verdict h orderVerdict listed
   violation : {number : ℕ} {listed : List ℕ} → FirstViolation h number listed → Verdict h number listed
