@@ -48,8 +48,8 @@ skip-below i j k l = go (skip-is i j)
     go (inl a) = omega (arith, a .1)
     go (inr a) = omega (arith, a .1)
 
--- numbers below n that are all different are at most n: either n - 1 is not among them, or without it there is one less, all
--- below n - 1
+-- of different numbers below n there are at most n: either n - 1 is not among them, or without it there is one less, all below
+-- n - 1
 pub different-are-few : (f : ℕ → ℕ) (k n : ℕ) → ((i : ℕ) → i < k → f i < n) → ((i j : ℕ) → i < j → j < k → f i ≡ f j → ⊥) → k ≤ n
 different-are-few f zero n small apart = omega arith
 different-are-few f (suc k) zero small apart = absurd (omega (arith, small 0 (omega arith)))

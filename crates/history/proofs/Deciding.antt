@@ -3,9 +3,10 @@ use Prim.Native.Nat.{ℕ, zero, suc, _<_}
 use native.Mathlib.Omega.{arith}
 use native.Mathlib.Decide.{ℕ-discrete, decLt}
 use mathlib.Core.Path.{_≡_}
-use mathlib.Core.Logic.{Dec·and, Dec·not}
+use mathlib.Core.Logic.{_⊎_, inl, inr, ⊎-elim, Dec·and, Dec·not}
 use mathlib.Core.List.{List, [], _∷_, _++_}
 use lib.ListN.{length}
+use Rattle.reader.proofs.Search.{Lowest, None, lowest}
 use Rattle.history.specs.History.{History, add, remove, emptyRemove, Returned, Precedes}
 use Rattle.history.specs.Linearization.{Makes, puts, takes, meets, Fifo, done, then, placed, Listed, Linearization}
 use Rattle.history.proofs.Basics.{up-to}
@@ -31,6 +32,21 @@ implies? (no n) e = yes (λ p. absurd (n p))
 unfoldable pub equivalent? : {P Q : Type 0} → (P → Q) → (Q → P) → Dec P → Dec Q
 equivalent? to from (yes p) = yes (to p)
 equivalent? to from (no n) = no (λ q. n (from q))
+
+-- that one of two statements holds is decided by deciding both
+unfoldable pub either? : {P Q : Type 0} → Dec P → Dec Q → Dec (P ⊎ Q)
+either? (yes p) e = yes (inl p)
+either? (no n) (yes q) = yes (inr q)
+either? (no n) (no m) = no (⊎-elim n m)
+
+-- whether some number has a property, if only numbers below a bound have it
+unfoldable pub some? : (P : ℕ → Type 0) → ((m : ℕ) → Dec (P m)) → (n : ℕ) → ((m : ℕ) → P m → m < n) → Dec ((m : ℕ) × P m)
+unfolding lowest
+some? P d n bounded = go (lowest P d n)
+  where
+    go : Lowest P n ⊎ None P n → Dec ((m : ℕ) × P m)
+    go (inl s) = yes (s .at, s .holds)
+    go (inr none) = no (λ s. none (s .0) (bounded (s .0) (s .1)) (s .1))
 
 -- whether an operation stands in an order
 unfoldable pub listed? : (order : List ℕ) (o : ℕ) → Dec (Listed order o)

@@ -1,4 +1,5 @@
--- Tables of runs hold. What is read and what is right is computed, for a whole table at once.
+-- How a table of runs is proved to hold, for the crates above too, and that the two tables of this crate hold. What is read and
+-- what is right is computed, for a whole table at once.
 use Prim.Native.Nat.{ℕ}
 use mathlib.Core.Path.{_≡_, refl}
 use mathlib.Core.Bool.{true, decide, decide-iff}

@@ -1,4 +1,4 @@
--- A property of each of a list.
+-- Each of a list has a property.
 use mathlib.Core.List.{List, [], _∷_}
 
 abbrev pub Each : {A : Type 0} → (A → Type 0) → List A → Type 0

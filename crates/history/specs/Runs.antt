@@ -1,6 +1,6 @@
 -- Document 01, "Runs": "A7( calls add of 7, A7) returns it; R( calls remove, R7) and R-) return it. Ticks rise by one; each
 -- operation has a client of its own." What a table of runs is, and two tables: lists that are legal orders of a run, and
--- lists that are none. The runs that the document marks * are a table of the crate violations, which knows the patterns.
+-- lists that are not. The runs that the document marks * are a table of the crate violations, which knows the patterns.
 use Prim.Native.Nat.{ℕ, _+_}
 use mathlib.Core.Path.{_≡_}
 use mathlib.Core.List.{List, [], _∷_}
@@ -38,7 +38,7 @@ pub record Holds {A : Type 0} (Right : History → A → Type 0) (row : Row A) :
 
 -- All of the lists are legal orders of a history.
 abbrev pub AllLegal : History → List (List ℕ) → Type 0
-AllLegal h lists = Each (λ listed. Linearization h listed) lists
+AllLegal h lists = Each (Linearization h) lists
 
 abbrev pub linearizations : List (Row (List (List ℕ)))
 linearizations =

@@ -10,8 +10,8 @@ use Rattle.violations.specs.Violations.{Occurs}
 use Rattle.violations.specs.Verdict.{Verdict}
 use Rattle.violations.specs.Parts.{HasValue, Part, Kept, Alike}
 use Rattle.violations.proofs.Occurrences.{occurs-known}
-use Rattle.violations.proofs.Matching.{each-map}
 use Rattle.violations.proofs.Parts.{part-verdict}
+use Rattle.violations.proofs.Lists.{each-map}
 
 -- Likeness goes both ways: what is known of `from o` in one history is known of `to (from o)` in the other, which is o.
 pub alike-sym : {h k : History} → Alike h k → Alike k h
@@ -54,6 +54,6 @@ alike-keeps a {listed = listed} x = each-map (λ o l. (a .from o, record { known
 
 -- The verdict byte is the same.
 pub alike-verdict : {h k : History} → Lawful h → Lawful k → Alike h k → {m n : ℕ} {xs ys : List ℕ} → Verdict h m xs → Verdict k n ys → m ≡ n
-alike-verdict laws-h laws-k a (Verdict.order x) (Verdict.order y) = refl
+alike-verdict laws-h laws-k a (Verdict.linearization x) (Verdict.linearization y) = refl
 alike-verdict laws-h laws-k a (Verdict.violation x) y = part-verdict (alike-part (alike-sym a)) laws-h laws-k x (alike-keeps (alike-sym a) (x .occurs)) y
-alike-verdict laws-h laws-k a (Verdict.order x) (Verdict.violation y) = sym (part-verdict (alike-part a) laws-k laws-h y (alike-keeps a (y .occurs)) (Verdict.order x))
+alike-verdict laws-h laws-k a (Verdict.linearization x) (Verdict.violation y) = sym (part-verdict (alike-part a) laws-k laws-h y (alike-keeps a (y .occurs)) (Verdict.linearization x))

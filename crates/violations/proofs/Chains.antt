@@ -1,38 +1,16 @@
 -- How far values cover, and the chains of pattern 6. What there is is found by bounded searches, in a form that computes.
 use Prim.Native.Nat.{ℕ, zero, suc, _+_, _≤_, _<_}
 use native.Mathlib.Omega.{arith}
-use native.Mathlib.Decide.{ℕ-discrete, decLe, decLt}
+use native.Mathlib.Decide.{decLe, decLt}
 use mathlib.Core.Path.{_≡_, refl}
 use mathlib.Core.Logic.{_⊎_, inl, inr, _↔_, Dec·and, Dec·not}
 use mathlib.Core.List.{List, [], _∷_}
 use Rattle.reader.proofs.Search.{Lowest, None, lowest}
 use Rattle.history.specs.History.{History, emptyRemove}
 use Rattle.history.proofs.Deciding.{equivalent?}
-use Rattle.violations.specs.Violations.{Is, RemoveOf, Removed, Gap, Reaches, removed, never, Covers, Covered, AllCovered, Furthest, Chain, all, link, FalseEmpty}
+use Rattle.violations.specs.Violations.{Is, RemoveOf, Gap, Reaches, removed, never, Covers, Covered, AllCovered, Furthest, Chain, all, link, FalseEmpty}
 use Rattle.violations.proofs.Choosing.{Best, best, greater, Ahead, ahead-at-least, ahead-of-less, ahead}
-
--- whether some number has a property, if only numbers below a bound have it
-unfoldable pub some? : (P : ℕ → Type 0) → ((m : ℕ) → Dec (P m)) → (n : ℕ) → ((m : ℕ) → P m → m < n) → Dec ((m : ℕ) × P m)
-unfolding lowest
-some? P d n bounded = go (lowest P d n)
-  where
-    go : Lowest P n ⊎ None P n → Dec ((m : ℕ) × P m)
-    go (inl s) = yes (s .at, s .holds)
-    go (inr none) = no (λ s. none (s .0) (bounded (s .0) (s .1)) (s .1))
-
--- whether an operation is of a kind, and whether it is a remove of an add's value
-unfoldable pub is? : (h : History) (kind o : ℕ) → Dec (Is h kind o)
-unfolding equivalent? Dec·and decLt ℕ-discrete
-is? h kind o = equivalent? {P = _ × _} (λ p. record { known = p .0; kinds = p .1 }) (λ i. (i .known, i .kinds)) (Dec·and (decLt _ _) (ℕ-discrete _ _))
-
-unfoldable pub remove-of? : (h : History) (a r : ℕ) → Dec (RemoveOf h a r)
-unfolding equivalent? Dec·and is? ℕ-discrete
-remove-of? h a r = equivalent? {P = _ × _} (λ p. record { removes = p .0; same = p .1 }) (λ q. (q .removes, q .same)) (Dec·and (is? _ _ _) (ℕ-discrete _ _))
-
--- whether the value of an add is removed
-unfoldable pub removed? : (h : History) (a : ℕ) → Dec (Removed h a)
-unfolding some? remove-of?
-removed? h a = some? (RemoveOf h a) (remove-of? h a) (h .count) (λ r q. q .removes .known)
+use Rattle.violations.proofs.Operations.{is?, remove-of?}
 
 -- The furthest that the value of an add reaches. A value that is removed twice reaches two calls, and the later one counts.
 pub record Reach (h : History) (a : ℕ) : Type 0 where
@@ -41,7 +19,7 @@ pub record Reach (h : History) (a : ℕ) : Type 0 where
   pub furthest : (far : ℕ) → Reaches h a far → far ≤ to
 
 -- there is one for each add
-unfoldable pub reach-of : (h : History) (a : ℕ) → Reach h a
+pub reach-of : (h : History) (a : ℕ) → Reach h a
 unfolding best greater remove-of?
 reach-of h a = go (best (RemoveOf h a) (λ r s. h .call s ≤ h .call r) (greater (h .call)) (remove-of? h a) (h .count))
   where
@@ -64,11 +42,11 @@ reach-of h a = go (best (RemoveOf h a) (λ r s. h .call s ≤ h .call r) (greate
     go (inr none) = record { to = h .end; reaches = never (λ r. none (r .0) (r .1 .removes .known) (r .1)) refl; furthest = to-end none }
 
 -- The value of an add covers a gap, if it is taken as far as it reaches.
-abbrev pub CoversFully : History → ℕ → ℕ → Type 0
+abbrev CoversFully : History → ℕ → ℕ → Type 0
 CoversFully h g a = Covers h a (reach-of h a .to) g
 
 -- whether it does
-unfoldable pub covers-fully? : (h : History) (g a : ℕ) → Dec (CoversFully h g a)
+covers-fully? : (h : History) (g a : ℕ) → Dec (CoversFully h g a)
 unfolding reach-of equivalent? Dec·and is? decLe decLt
 covers-fully? h g a =
     equivalent? {P = _ × (_ × _)} (λ p. record { adds = p .0; reaches = reach-of h a .reaches; from = p .1 .0; until = p .1 .1 }) (λ c. (c .adds, (c .from, c .until)))
@@ -79,11 +57,11 @@ pub covers-fully : {h : History} {a far g : ℕ} → Covers h a far g → Covers
 covers-fully {h} {a} {far} c = record { adds = c .adds; reaches = reach-of h a .reaches; from = c .from; until = omega (arith, c .until, reach-of h a .furthest far (c .reaches)) }
 
 -- Some value is the one covering a gap that reaches furthest.
-abbrev pub SomeFurthest : History → ℕ → Type 0
+abbrev SomeFurthest : History → ℕ → Type 0
 SomeFurthest h g = (a : ℕ) × (reach : ℕ) × Furthest h a reach g
 
 -- that value is found, or none covers the gap
-unfoldable pub furthest-of : (h : History) (g : ℕ) → SomeFurthest h g ⊎ (Covered h g → ⊥)
+furthest-of : (h : History) (g : ℕ) → SomeFurthest h g ⊎ (Covered h g → ⊥)
 unfolding best ahead covers-fully? reach-of
 furthest-of h g = go (best (CoversFully h g) Further (ahead (λ a. reach-of h a .to)) (covers-fully? h g) (h .count))
   where
@@ -103,7 +81,7 @@ furthest-of h g = go (best (CoversFully h g) Further (ahead (λ a. reach-of h a 
     go (inr none) = inr (λ c. none (c .0) (c .2 .adds .known) (covers-fully (c .2)))
 
 -- whether some value covers a gap
-unfoldable pub covered? : (h : History) (g : ℕ) → Dec (Covered h g)
+covered? : (h : History) (g : ℕ) → Dec (Covered h g)
 unfolding furthest-of
 covered? h g = go (furthest-of h g)
   where
@@ -112,7 +90,7 @@ covered? h g = go (furthest-of h g)
     go (inr n) = no n
 
 -- of the values that cover a gap one reaches furthest
-unfoldable pub covered-furthest : {h : History} {g : ℕ} → Covered h g → SomeFurthest h g
+covered-furthest : {h : History} {g : ℕ} → Covered h g → SomeFurthest h g
 unfolding furthest-of
 covered-furthest {h} {g} c = go (furthest-of h g)
   where
@@ -121,7 +99,7 @@ covered-furthest {h} {g} c = go (furthest-of h g)
     go (inr n) = absurd (n c)
 
 -- only one value reaches furthest
-pub furthest-one : {h : History} {a b c d g : ℕ} → Furthest h a c g → Furthest h b d g → (a ≡ b) × (c ≡ d)
+furthest-one : {h : History} {a b c d g : ℕ} → Furthest h a c g → Furthest h b d g → (a ≡ b) × (c ≡ d)
 furthest-one {h} {a} {b} {c} {d} f k = go (f .furthest b d (k .covers)) (k .furthest a c (f .covers))
   where
     go : Ahead a c b d → Ahead b d a c → (a ≡ b) × (c ≡ d)
@@ -137,7 +115,7 @@ chain-one (link l f c) (all k) = absurd (omega arith)
 chain-one (link l f c) (link k f' c') = let e = furthest-one f f' in cc (e .0, chain-one c (rw (← (e .1)) at c'))
 
 -- All gaps from g up to a return are covered; there is a chain for them.
-abbrev pub CoveredUntil : History → ℕ → ℕ → Type 0
+abbrev CoveredUntil : History → ℕ → ℕ → Type 0
 CoveredUntil h return g = (i : ℕ) → g ≤ i → i < return → Covered h i
 
 abbrev pub SomeChain : History → ℕ → ℕ → Type 0
@@ -153,7 +131,7 @@ chain-covers {h} {return} (link {g} {a} {reach} l f c) i from until = go (decLt 
     go (no n) rest = rest (omega arith) until
 
 -- covered gaps have a chain: each link reaches behind the gap that it covers, so as many links as there are gaps are enough
-unfoldable pub chain-within : (h : History) (return links g : ℕ) → return ≤ g + links → CoveredUntil h return g → SomeChain h return g
+chain-within : (h : History) (return links g : ℕ) → return ≤ g + links → CoveredUntil h return g → SomeChain h return g
 unfolding covered-furthest decLt
 chain-within h return zero g enough covered = ([], all {g = g} (omega arith))
 chain-within h return (suc links) g enough covered = go (decLt g return) (chain-within h return links)
@@ -167,7 +145,7 @@ chain-within h return (suc links) g enough covered = go (decLt g return) (chain-
     go (no n) rest = ([], all {g = g} (omega arith))
 
 -- The gaps of an empty remove are all covered exactly if there is a chain for them.
-unfoldable pub chained-exactly : (h : History) (e : ℕ) → AllCovered h e ↔ SomeChain h (h .ret e) (h .call e)
+pub chained-exactly : (h : History) (e : ℕ) → AllCovered h e ↔ SomeChain h (h .ret e) (h .call e)
 unfolding chain-within
 chained-exactly h e = (
   λ covered. chain-within h (h .ret e) (h .ret e) (h .call e) (omega arith) (λ g from until. covered g (record { from = from; until = until })),
@@ -186,7 +164,7 @@ pub record UncoveredGap (h : History) (e : ℕ) : Type 0 where
   pub uncovered : Covered h gap → ⊥
 
 -- whether a gap is one of an empty remove
-unfoldable pub gap? : (h : History) (e g : ℕ) → Dec (Gap h e g)
+gap? : (h : History) (e g : ℕ) → Dec (Gap h e g)
 unfolding equivalent? Dec·and decLe decLt
 gap? h e g = equivalent? {P = _ × _} (λ p. record { from = p .0; until = p .1 }) (λ l. (l .from, l .until)) (Dec·and (decLe _ _) (decLt _ _))
 

@@ -46,8 +46,16 @@ best P AsGood ranking d (suc n) = go (best P AsGood ranking d n) (d n)
     go (inr none) (yes p) = inl (takes p (λ m l q. absurd (none m l q)))
     go (inr none) (no q) = inr (λ m l. up-to {P = λ i. P i → ⊥} none q m (omega arith))
 
+-- there is a best one where some number has the property
+pub best-of : {P : ℕ → Type 0} {AsGood : ℕ → ℕ → Type 0} → Ranking AsGood → ((m : ℕ) → Dec (P m)) → {n m : ℕ} → m < n → P m → Best P AsGood n
+best-of {P} {AsGood} ranking d {n} {m} l p = go (best P AsGood ranking d n)
+  where
+    go : Best P AsGood n ⊎ None P n → Best P AsGood n
+    go (inl s) = s
+    go (inr none) = absurd (none m l p)
+
 -- of two numbers one is no more than the other
-unfoldable pub compared : (x y : ℕ) → (x ≤ y) ⊎ (y ≤ x)
+compared : (x y : ℕ) → (x ≤ y) ⊎ (y ≤ x)
 unfolding decLt
 compared x y = go (decLt x y)
   where
@@ -56,7 +64,7 @@ compared x y = go (decLt x y)
     go (no l) = inr (omega arith)
 
 -- the one with the lesser measure is better, or the one with the greater measure
-unfoldable pub lesser : (f : ℕ → ℕ) → Ranking (λ m n. f m ≤ f n)
+pub lesser : (f : ℕ → ℕ) → Ranking (λ m n. f m ≤ f n)
 unfolding compared
 lesser f = record { either = λ m n. compared (f m) (f n); joined = λ l m n b c. omega arith }
 

@@ -4,58 +4,53 @@ use Prim.Native.Nat.{ℕ, _<_}
 use native.Mathlib.Omega.{arith}
 use native.Mathlib.Decide.{ℕ-discrete, decLt}
 use mathlib.Core.Path.{_≡_, refl}
-use mathlib.Core.Logic.{_⊎_, inl, inr, ⊎-elim, Dec·and, Dec·not}
+use mathlib.Core.Logic.{_⊎_, inl, inr, Dec·and, Dec·not}
 use mathlib.Core.List.{List, [], _∷_}
 use Rattle.history.specs.History.{History, add, emptyRemove}
-use Rattle.history.proofs.Deciding.{all-below?, implies?, equivalent?, listed?, linearization?}
+use Rattle.history.proofs.Deciding.{all-below?, implies?, equivalent?, listed?, linearization?, some?, either?}
 use Rattle.violations.specs.Violations.{Is, RemoveOf, Unknown, Twice, Early, Stuck, Overtaken, AllCovered, FalseEmpty, Occurs, unknown, twice, early, stuck, overtaken, falseEmpty, NoViolation}
-use Rattle.violations.specs.Verdict.{FirstViolation, JudgedOrder}
-use Rattle.violations.proofs.Chains.{some?, is?, remove-of?, removed?, chain-one, false-empty, UncoveredGap, uncovered-gap}
+use Rattle.violations.specs.Verdict.{FirstViolation, JudgedLinearization}
+use Rattle.violations.proofs.Chains.{chain-one, false-empty, UncoveredGap, uncovered-gap}
 use Rattle.violations.proofs.Occurrences.{OfKinds, kindsOf, occurs-of-kinds, occurs-numbered}
 use Rattle.violations.proofs.Lowest.{Compared, lower-total, same?, LowestList, Sought, only-lowest, LowestPair, lowest-pair, lowest-cons}
-
--- that one of two statements holds is decided by deciding both
-unfoldable pub either? : {P Q : Type 0} → Dec P → Dec Q → Dec (P ⊎ Q)
-either? (yes p) e = yes (inl p)
-either? (no n) (yes q) = yes (inr q)
-either? (no n) (no m) = no (⊎-elim n m)
+use Rattle.violations.proofs.Operations.{is?, remove-of?, removed?}
 
 -- whether operations are an occurrence of a pattern, for each of the patterns 1 to 5
-unfoldable pub unknown? : (h : History) (r : ℕ) → Dec (Unknown h r)
+unknown? : (h : History) (r : ℕ) → Dec (Unknown h r)
 unfolding equivalent? Dec·and Dec·not some? is? remove-of?
 unknown? h r =
     equivalent? {P = _ × (_ → ⊥)} (λ p. record { removes = p .0; unnamed = λ a i q. p .1 (a, (i, q)) }) (λ u. (u .removes, λ s. u .unnamed (s .0) (s .1 .0) (s .1 .1)))
     (Dec·and (is? _ _ _) (Dec·not (some? (λ a. Is h add a × RemoveOf h a r) (λ a. Dec·and (is? _ _ _) (remove-of? _ _ _)) (h .count) (λ a p. p .0 .known))))
 
-unfoldable pub twice? : (h : History) (r s : ℕ) → Dec (Twice h r s)
+twice? : (h : History) (r s : ℕ) → Dec (Twice h r s)
 unfolding equivalent? Dec·and is? decLt ℕ-discrete
 twice? h r s =
     equivalent? {P = _ × (_ × (_ × _))} (λ p. record { first = p .0; second = p .1 .0; lower = p .1 .1 .0; same = p .1 .1 .1 }) (λ t. (t .first, (t .second, (t .lower, t .same))))
     (Dec·and (is? _ _ _) (Dec·and (is? _ _ _) (Dec·and (decLt _ _) (ℕ-discrete _ _))))
 
-unfoldable pub early? : (h : History) (r a : ℕ) → Dec (Early h r a)
+early? : (h : History) (r a : ℕ) → Dec (Early h r a)
 unfolding equivalent? Dec·and is? remove-of? decLt
 early? h r a =
     equivalent? {P = _ × (_ × _)} (λ p. record { adds = p .0; removes = p .1 .0; before = p .1 .1 }) (λ t. (t .adds, (t .removes, t .before)))
     (Dec·and (is? _ _ _) (Dec·and (remove-of? _ _ _) (decLt _ _)))
 
-unfoldable pub stuck? : (h : History) (a b r : ℕ) → Dec (Stuck h a b r)
+stuck? : (h : History) (a b r : ℕ) → Dec (Stuck h a b r)
 unfolding equivalent? Dec·and Dec·not is? remove-of? removed? decLt
 stuck? h a b r =
     equivalent? {P = _ × (_ × (_ × (_ × _)))} (λ p. record { first = p .0; second = p .1 .0; before = p .1 .1 .0; removes = p .1 .1 .1 .0; never = p .1 .1 .1 .1 })
     (λ t. (t .first, (t .second, (t .before, (t .removes, t .never)))))
     (Dec·and (is? _ _ _) (Dec·and (is? _ _ _) (Dec·and (decLt _ _) (Dec·and (remove-of? _ _ _) (Dec·not (removed? _ _))))))
 
-unfoldable pub overtaken? : (h : History) (a b r s : ℕ) → Dec (Overtaken h a b r s)
+overtaken? : (h : History) (a b r s : ℕ) → Dec (Overtaken h a b r s)
 unfolding equivalent? Dec·and is? remove-of? decLt
 overtaken? h a b r s =
     equivalent? {P = _ × (_ × (_ × (_ × (_ × _))))}
-    (λ p. record { first = p .0; second = p .1 .0; ahead = p .1 .1 .0; removes = p .1 .1 .1 .0; removes-first = p .1 .1 .1 .1 .0; overtakes = p .1 .1 .1 .1 .1 })
-    (λ t. (t .first, (t .second, (t .ahead, (t .removes, (t .removes-first, t .overtakes))))))
+    (λ p. record { first = p .0; second = p .1 .0; added-before = p .1 .1 .0; removes = p .1 .1 .1 .0; removes-late = p .1 .1 .1 .1 .0; overtakes = p .1 .1 .1 .1 .1 })
+    (λ t. (t .first, (t .second, (t .added-before, (t .removes, (t .removes-late, t .overtakes))))))
     (Dec·and (is? _ _ _) (Dec·and (is? _ _ _) (Dec·and (decLt _ _) (Dec·and (remove-of? _ _ _) (Dec·and (remove-of? _ _ _) (decLt _ _))))))
 
 -- One of the patterns 1 to 5 occurs with a list of operations: the length of the list tells which one it may be.
-abbrev pub Fits : History → ℕ → List ℕ → Type 0
+abbrev Fits : History → ℕ → List ℕ → Type 0
 Fits h n [] = ⊥
 Fits h n (o ∷ []) = (n ≡ 1) × Unknown h o
 Fits h n (o ∷ p ∷ []) = ((n ≡ 2) × Twice h o p) ⊎ ((n ≡ 3) × Early h o p)
@@ -64,7 +59,7 @@ Fits h n (o ∷ p ∷ q ∷ r ∷ []) = (n ≡ 5) × Overtaken h o p q r
 Fits h n (o ∷ p ∷ q ∷ r ∷ s ∷ listed) = ⊥
 
 -- whether it does
-unfoldable pub fits? : (h : History) (n : ℕ) (listed : List ℕ) → Dec (Fits h n listed)
+fits? : (h : History) (n : ℕ) (listed : List ℕ) → Dec (Fits h n listed)
 unfolding either? Dec·and ℕ-discrete unknown? twice? early? stuck? overtaken?
 fits? h n [] = no (λ f. f)
 fits? h n (o ∷ []) = Dec·and (ℕ-discrete _ _) (unknown? _ _)
@@ -92,12 +87,12 @@ occurs-fits l (overtaken t) = (refl, t)
 occurs-fits l (falseEmpty t) = absurd (omega arith)
 
 -- whether one of the patterns 1 to 5 occurs with a list of operations
-unfoldable pub occurs? : (h : History) (n : ℕ) → n < 6 → (listed : List ℕ) → Dec (Occurs h n listed)
+occurs? : (h : History) (n : ℕ) → n < 6 → (listed : List ℕ) → Dec (Occurs h n listed)
 unfolding equivalent? fits?
 occurs? h n l listed = equivalent? (fits-occurs listed) (occurs-fits l) (fits? h n listed)
 
 -- the lowest list that has a property is sought, if only lists of operations of these kinds have it
-unfoldable pub lowest-of-kinds : (h : History) (kinds : List ℕ) (P : List ℕ → Type 0) → ((os : List ℕ) → Dec (P os)) → ((os : List ℕ) → P os → OfKinds h kinds os) → Sought P
+lowest-of-kinds : (h : History) (kinds : List ℕ) (P : List ℕ → Type 0) → ((os : List ℕ) → Dec (P os)) → ((os : List ℕ) → P os → OfKinds h kinds os) → Sought P
 unfolding only-lowest lowest-pair lowest-cons is?
 lowest-of-kinds h [] P d kinded = go (d [])
   where
@@ -125,7 +120,7 @@ occurs-false-empty {h} {n} {e} {chain} l o = let six : n ≡ 6 = omega (arith, o
     sixth (falseEmpty t) = t
 
 -- the list of pattern 6 that begins with an operation is sought: there is only one, since there is only one chain
-unfoldable pub false-empty-of : (h : History) (n : ℕ) → (n < 6 → ⊥) → (e : ℕ) → Sought (λ chain. Occurs h n (e ∷ chain))
+false-empty-of : (h : History) (n : ℕ) → (n < 6 → ⊥) → (e : ℕ) → Sought (λ chain. Occurs h n (e ∷ chain))
 unfolding ℕ-discrete is? uncovered-gap false-empty only-lowest
 false-empty-of h n l e = go (ℕ-discrete n 6) (is? h emptyRemove e) (uncovered-gap h e)
   where
@@ -139,7 +134,7 @@ false-empty-of h n l e = go (ℕ-discrete n 6) (is? h emptyRemove e) (uncovered-
     go (no q) c d = inr (λ chain o. q (omega (arith, occurs-numbered o)))
 
 -- the lowest list with which a pattern occurs is sought
-unfoldable pub lowest-occurrence : (h : History) (n : ℕ) → Sought (Occurs h n)
+lowest-occurrence : (h : History) (n : ℕ) → Sought (Occurs h n)
 unfolding decLt occurs? lowest-of-kinds lowest-pair lowest-cons false-empty-of
 lowest-occurrence h n = go (decLt n 6)
   where
@@ -154,7 +149,7 @@ abbrev pub SomeViolation : History → Type 0
 SomeViolation h = (n : ℕ) × (listed : List ℕ) × FirstViolation h n listed
 
 -- the first violation of a history is found, or no pattern occurs
-unfoldable pub first-violation : (h : History) → SomeViolation h ⊎ NoViolation h
+pub first-violation : (h : History) → SomeViolation h ⊎ NoViolation h
 unfolding lowest-pair lowest-occurrence
 first-violation h = go (lowest-pair (Occurs h) (lowest-occurrence h) 7 (λ n listed o. occurs-numbered o .1))
   where
@@ -187,9 +182,9 @@ first-violation? h n listed = go (first-violation h)
     go (inr none) = no (λ f. none n listed (f .occurs))
 
 -- whether a list is an order as the judge lists it
-unfoldable pub judged-order? : (h : History) (order : List ℕ) → Dec (JudgedOrder h order)
+unfoldable pub judged-linearization? : (h : History) (order : List ℕ) → Dec (JudgedLinearization h order)
 unfolding equivalent? Dec·and linearization? all-below? implies? Dec·not decLt listed? removed?
-judged-order? h order =
+judged-linearization? h order =
     equivalent? {P = _ × _} (λ p. record { legal = p .0; pending = p .1 }) (λ o. (o .legal, o .pending))
     (Dec·and (linearization? _ _)
     (all-below? (λ a. implies? (Dec·not (decLt _ _)) (Dec·and (implies? (listed? _ _) (removed? _ _)) (implies? (removed? _ _) (listed? _ _)))) (h .count)))

@@ -2,16 +2,27 @@
 use Prim.Native.Nat.{ℕ, _+_, _≤_, _<_}
 use native.Mathlib.Omega.{arith}
 use mathlib.Core.Path.{_≡_, refl, sym, ap, _∙_}
-use mathlib.Core.Logic.{_⊎_, inl, inr}
 use mathlib.Core.List.{List}
 use lib.ListN.{length}
-use Rattle.reader.proofs.Search.{None}
 use Rattle.history.specs.History.{History, add, remove, emptyRemove, Precedes, Lawful}
 use Rattle.history.specs.Linearization.{placed, Listed, Linearization}
 use Rattle.violations.specs.Violations.{Is, RemoveOf, Unknown, Twice, Early, Stuck, Overtaken, Gap, Reaches, removed, never, Covers, Covered, FalseEmpty, Occurs, unknown, twice, early, stuck, overtaken, falseEmpty}
-use Rattle.violations.proofs.Choosing.{Best, best, greater}
-use Rattle.violations.proofs.Precedence.{precedes-unless-after}
+use Rattle.violations.proofs.Choosing.{Best, best-of, greater}
 use Rattle.violations.proofs.Pairing.{rank, rank-passed, Source, source, Taken, taken, taken-before-empty}
+use Rattle.violations.proofs.Operations.{precedes-unless-after, is-returned, same-adder}
+
+-- The witness gap of an empty remove: it lies behind the latest call among the empty remove and what is listed before it.
+-- Whatever was added up to there is listed before, and so was removed: no value covers the gap.
+pub record Witness (h : History) (order : List ℕ) (e : ℕ) : Type 0 where
+  pub listed : Listed order e
+  pub gap : ℕ
+  -- the gap is behind the call of one of the operations up to the empty remove, and none of them is called later
+  pub at : ℕ
+  pub among : at ≤ listed .at
+  pub here : h .call (placed order at) ≡ gap
+  pub latest : (i : ℕ) → i ≤ listed .at → h .call (placed order i) ≤ gap
+  pub lies : Gap h e gap
+  pub uncovered : Covered h gap → ⊥
 
 module _ {h : History} (lawful : Lawful h) {order : List ℕ} (legal : Linearization h order) where
   -- one operation stands at one place
@@ -53,9 +64,9 @@ module _ {h : History} (lawful : Lawful h) {order : List ℕ} (legal : Lineariza
   }
     where
       l : Listed order r
-      l = legal .every r (removes .known) (lawful .returned r (removes .known) (λ e. omega (arith, removes .kinds)))
+      l = legal .every r (removes .known) (is-returned lawful removes (omega arith))
 
-      s : Source h order (legal .runs) (l .at)
+      s : Source h order (l .at)
       s = source h order (legal .runs) (l .at) (l .below) (ap (h .kind) (l .here) ∙ removes .kinds)
 
       below : s .at < length order
@@ -63,7 +74,7 @@ module _ {h : History} (lawful : Lawful h) {order : List ℕ} (legal : Lineariza
 
   -- it is the only add of the value, and the remove is the only one
   adder-is : {a r : ℕ} → Is h add a → RemoveOf h a r → (s : Served r) → s .adder ≡ a
-  adder-is {a} adds removes s = lawful .once (s .adder) a (s .adds .known) (adds .known) (s .adds .kinds) (adds .kinds) (sym (s .removes .same) ∙ removes .same)
+  adder-is adds removes s = same-adder lawful (s .adds) adds (s .removes) removes
 
   single : {r s : ℕ} → Is h remove r → Is h remove s → h .value r ≡ h .value s → r ≡ s
   single {r} {s} first second e =
@@ -88,13 +99,13 @@ module _ {h : History} (lawful : Lawful h) {order : List ℕ} (legal : Lineariza
       later removes l m b = rank-passed h order remove (l .at) (m .at) b (ap (h .kind) (l .here) ∙ removes .kinds)
 
   -- the remove that has taken the value of an add
-  taken-out : {a k : ℕ} (l : Listed order a) (t : Taken h order (legal .runs) (l .at) k) → k ≤ length order → RemoveOf h a (placed order (t .at))
+  taken-out : {a k : ℕ} (l : Listed order a) (t : Taken h order (l .at) k) → k ≤ length order → RemoveOf h a (placed order (t .at))
   taken-out l t b = record {
     removes = record { known = legal .known (t .at) (omega (arith, t .below)); kinds = t .removes-here };
     same = t .same ∙ ap (h .value) (l .here);
   }
 
-  -- of two adds, one preceding the other, the first is removed, and not behind the second
+  -- of two adds, one preceding the other, the first is removed, and its remove is not preceded by that of the second
   record Earlier (a r : ℕ) : Type 0 where
     remover : ℕ
     removes : RemoveOf h a remover
@@ -116,7 +127,7 @@ module _ {h : History} (lawful : Lawful h) {order : List ℕ} (legal : Lineariza
       ahead : l .at < s .adding .at
       ahead = in-order before l (rw (adder-is second removes s) at (s .adding))
 
-      t : Taken h order (legal .runs) (l .at) (s .removing .at)
+      t : Taken h order (l .at) (s .removing .at)
       t = taken h order (legal .runs) (l .at) (s .removing .at) (omega (arith, ahead, s .before)) (omega (arith, s .removing .below)) (ap (h .kind) (l .here) ∙ first .kinds)
           (omega (arith, rank-passed h order add (l .at) (s .adding .at) ahead (ap (h .kind) (l .here) ∙ first .kinds), s .ranks))
 
@@ -138,40 +149,30 @@ module _ {h : History} (lawful : Lawful h) {order : List ℕ} (legal : Lineariza
 
   excludes-overtaken : {a b r s : ℕ} → Overtaken h a b r s → ⊥
   excludes-overtaken {a} {b} {r} {s} o =
-      let e : Earlier a r = earlier (o .first) (o .second) (o .ahead) (o .removes) in
-      e .kept (rw (single (e .removes .removes) (o .removes-first .removes) (e .removes .same ∙ sym (o .removes-first .same))) (o .overtakes))
+      let e : Earlier a r = earlier (o .first) (o .second) (o .added-before) (o .removes) in
+      e .kept (rw (single (e .removes .removes) (o .removes-late .removes) (e .removes .same ∙ sym (o .removes-late .same))) (o .overtakes))
 
   -- the latest call among the operations up to a place
   abbrev NoEarlier : ℕ → ℕ → Type 0
   NoEarlier i j = h .call (placed order j) ≤ h .call (placed order i)
 
   latest : (k : ℕ) → Best (λ i. Unit {0}) NoEarlier (k + 1)
-  latest k = go (best (λ i. Unit {0}) NoEarlier (greater (λ i. h .call (placed order i))) (λ i. yes tt) (k + 1))
-    where
-      go : Best (λ i. Unit {0}) NoEarlier (k + 1) ⊎ None (λ i. Unit {0}) (k + 1) → Best (λ i. Unit {0}) NoEarlier (k + 1)
-      go (inl s) = s
-      go (inr none) = absurd (none k (omega arith) tt)
+  latest k = best-of (greater (λ i. h .call (placed order i))) (λ i. yes tt) {m = k} (omega arith) tt
 
-  -- The witness gap of an empty remove: it lies behind the latest call among the empty remove and what is listed before it.
-  -- Whatever was added up to there is listed before, and so was removed: no value covers the gap.
-  pub record Witness (e : ℕ) : Type 0 where
-    pub listed : Listed order e
-    pub gap : ℕ
-    pub lies : Gap h e gap
-    pub latest : (i : ℕ) → i ≤ listed .at → h .call (placed order i) ≤ gap
-    pub uncovered : Covered h gap → ⊥
-
-  pub witness-gap : {e : ℕ} → Is h emptyRemove e → Witness e
+  pub witness-gap : {e : ℕ} → Is h emptyRemove e → Witness h order e
   witness-gap {e} empties = record {
     listed = l;
     gap = g;
-    lies = record { from = rw (l .here) at (s .best (l .at) (omega arith) tt); until = until };
+    at = s .at;
+    among = omega (arith, s .below);
+    here = refl;
     latest = λ i b. s .best i (omega arith) tt;
+    lies = record { from = rw (l .here) at (s .best (l .at) (omega arith) tt); until = until };
     uncovered = λ covered. uncovered (covered .2);
   }
     where
       l : Listed order e
-      l = legal .every e (empties .known) (lawful .returned e (empties .known) (λ z. omega (arith, empties .kinds)))
+      l = legal .every e (empties .known) (is-returned lawful empties (omega arith))
 
       s : Best (λ i. Unit {0}) NoEarlier (l .at + 1)
       s = latest (l .at)
@@ -194,7 +195,7 @@ module _ {h : History} (lawful : Lawful h) {order : List ℕ} (legal : Lineariza
           m : Listed order a
           m = legal .every a (c .adds .known) (omega (arith, c .from, until, lawful .ends e (empties .known)))
 
-          t : Taken h order (legal .runs) (m .at) (l .at)
+          t : Taken h order (m .at) (l .at)
           t = taken-before-empty h order (legal .runs) (m .at) (l .at) (before (c .adds .known) (c .from) m) (l .below) (ap (h .kind) (m .here) ∙ c .adds .kinds) (ap (h .kind) (l .here) ∙ empties .kinds)
 
           out : RemoveOf h a (placed order (t .at))

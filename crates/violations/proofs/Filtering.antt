@@ -6,13 +6,12 @@ use mathlib.Core.Path.{_≡_, refl, sym, ap, _∙_}
 use mathlib.Core.Logic.{Dec·and}
 use mathlib.Core.List.{List, [], _∷_, _++_, append-nil}
 use lib.ListN.{length}
-use Rattle.history.specs.History.{History, emptyRemove}
+use Rattle.history.specs.History.{History}
 use Rattle.history.specs.Linearization.{Makes, puts, takes, meets, Fifo, done, then, placed, Listed, Linearization}
-use Rattle.history.proofs.Deciding.{equivalent?}
-use Rattle.violations.specs.Violations.{Is}
+use Rattle.history.proofs.Deciding.{equivalent?, some?}
 use Rattle.violations.specs.Parts.{HasValue, KeptAs, Part, Kept, Filtered, none, kept, dropped}
-use Rattle.violations.proofs.Chains.{some?}
 use Rattle.violations.proofs.Lists.{listed-behind}
+use Rattle.violations.proofs.Operations.{has-value}
 
 -- Whether an operation is kept is decided by a search among the operations of the part.
 kept? : {h part : History} (p : Part h part) (o : ℕ) → Dec (Kept p o)
@@ -22,7 +21,7 @@ kept? {part} p o = some? (KeptAs part (p .to) o) same? (part .count) (λ q s. s 
     same? q = equivalent? {P = _ × _} (λ s. record { known = s .0; is = s .1 }) (λ s. (s .known, s .is)) (Dec·and (decLt q (part .count)) (ℕ-discrete (p .to q) o))
 
 -- Every list can be filtered.
-filter : {h part : History} (p : Part h part) (order : List ℕ) → (filtered : List ℕ) × Filtered p order filtered
+pub filter : {h part : History} (p : Part h part) (order : List ℕ) → (filtered : List ℕ) × Filtered p order filtered
 filter p [] = ([], none)
 filter p (o ∷ order) = go (kept? p o) (filter p order)
   where
@@ -85,14 +84,6 @@ thinned-append nothing t = t
 thinned-append (stays x e f rest) t = stays x e f (thinned-append rest t)
 thinned-append (goes n rest) t = goes n (thinned-append rest t)
 
--- An operation that is no empty remove has a value.
-pub has-value : {h : History} {o : ℕ} → o < h .count → h .kind o < emptyRemove → HasValue h o
-has-value known valued = record { known = known; valued = λ e. omega arith }
-
--- So an add has one, and a remove.
-pub is-valued : {h : History} {kind o : ℕ} → Is h kind o → kind < emptyRemove → HasValue h o
-is-valued x valued = has-value (x .known) (omega (arith, x .kinds))
-
 -- What a kept operation makes of the queue, its counterpart makes of the part's queue.
 kept-makes : {h part : History} {p : Part h part} {q : ℕ} {queue queue' thin : List ℕ} → q < part .count → Makes h (p .to q) queue queue' → Thinned p queue thin
     → (thin' : List ℕ) × Makes part q thin thin' × Thinned p queue' thin'
@@ -122,22 +113,18 @@ filtered-runs known (dropped n rest) (then made run) t =
     filtered-runs (λ i k. known (suc i) (omega arith)) rest run (dropped-makes (known 0 (omega arith)) n made t)
 
 -- A legal order, filtered, is a legal order of the part.
-pub part-order : {h part : History} (p : Part h part) → (order : List ℕ) → Linearization h order → (filtered : List ℕ) × Filtered p order filtered × Linearization part filtered
-part-order {part} p order legal = go (filter p order)
-  where
-    go : (filtered : List ℕ) × Filtered p order filtered → (filtered : List ℕ) × Filtered p order filtered × Linearization part filtered
-    go (filtered, f) = (
-      filtered,
-      f,
-      record {
-        known = filtered-known f;
-        every = λ q known returned. let there : Listed order (p .to q) = legal .every (p .to q) (p .known q known) (p .returned q known .1 returned) in
-            filtered-listed f q known (there .at) (there .below) (there .here);
-        once = λ i j before below same. legal .once (place f i) (place f j) (place-rises f i j before) (place-is f j below .0)
-            (place-is f i (omega arith) .1 ∙ ap (p .to) same ∙ sym (place-is f j below .1));
-        keeps = λ i j before below precedes. legal .keeps (place f i) (place f j) (place-rises f i j before) (place-is f j below .0)
-            (rw (place-is f i (omega arith) .1, place-is f j below .1)
-            (p .precedes (placed filtered j) (placed filtered i) (filtered-known f j below) (filtered-known f i (omega arith)) .1 precedes));
-        runs = filtered-runs (legal .known) f (legal .runs) nothing;
-      },
-    )
+pub part-linearization : {h part : History} (p : Part h part) {order filtered : List ℕ} → Filtered p order filtered → Linearization h order → Linearization part filtered
+part-linearization p {order} {filtered} f legal = record {
+  known = filtered-known f;
+  every = λ q known returned.
+      let there : Listed order (p .to q) = legal .every (p .to q) (p .known q known) (p .returned q known .1 returned) in
+      filtered-listed f q known (there .at) (there .below) (there .here);
+  once = λ i j before below same.
+      legal .once (place f i) (place f j) (place-rises f i j before) (place-is f j below .0)
+      (place-is f i (omega arith) .1 ∙ ap (p .to) same ∙ sym (place-is f j below .1));
+  keeps = λ i j before below precedes.
+      legal .keeps (place f i) (place f j) (place-rises f i j before) (place-is f j below .0)
+      (rw (place-is f i (omega arith) .1, place-is f j below .1)
+      (p .precedes (placed filtered j) (placed filtered i) (filtered-known f j below) (filtered-known f i (omega arith)) .1 precedes));
+  runs = filtered-runs (legal .known) f (legal .runs) nothing;
+}

@@ -9,11 +9,13 @@ use Rattle.history.specs.History.{History, Lawful}
 use Rattle.history.specs.Linearization.{Linearization}
 use Rattle.history.specs.Sheet.{orderVerdict}
 use Rattle.violations.specs.Violations.{NoViolation}
-use Rattle.violations.specs.Verdict.{JudgedOrder, Verdict}
+use Rattle.violations.specs.Verdict.{JudgedLinearization, Verdict}
 use Rattle.violations.proofs.Occurrences.{occurs-numbered}
 -- "The lowest number that occurs is reported. Among its occurrences the lowest list": there is such an answer where a pattern
 -- occurs, and two answers that meet this are equal.
 pub use Rattle.violations.proofs.Deciding.{SomeViolation, first-violation, first-violation-one}
+-- A pattern has a number from 1 to 6, and lists operations of the history.
+pub use Rattle.violations.proofs.Occurrences.{occurs-numbered, occurs-known}
 -- An empty remove has all its gaps covered exactly if there is a chain, and there is only one.
 pub use Rattle.violations.proofs.Chains.{chained-exactly, chain-one}
 -- A legal order rules every pattern out, and gives each empty remove a witness gap.
@@ -22,17 +24,17 @@ pub use Rattle.violations.proofs.Excluding.{Witness, witness-gap, exclu
 -- order that lists an open add exactly if its value was removed; and which tables serve it.
 pub use Rattle.violations.proofs.Placing.{search-starts, search-places, search-ends}
 pub use Rattle.violations.proofs.Progress.{search-goes-on}
-pub use Rattle.violations.proofs.Constructing.{matched, sound, order-exists}
+pub use Rattle.violations.proofs.Constructing.{tables-match, tables-fit, linearization-exists}
 -- Parts of a history, and histories that are alike.
-pub use Rattle.violations.proofs.Filtering.{part-order}
-pub use Rattle.violations.proofs.Matching.{part-violations}
+pub use Rattle.violations.proofs.Filtering.{filter, part-linearization}
+pub use Rattle.violations.proofs.Corresponding.{part-violations}
 pub use Rattle.violations.proofs.Parts.{part-covered, part-keeps, part-verdict}
 pub use Rattle.violations.proofs.Alike.{alike-sym, alike-part, alike-verdict}
 
 module _ {h : History} (lawful : Lawful h) where
   -- A legal order exists exactly if no pattern occurs.
   pub linearizable-exactly : ((order : List ℕ) × Linearization h order) ↔ NoViolation h
-  linearizable-exactly = (λ found n listed. excluded lawful (found .1), λ clean. let (order, judged) = order-exists lawful clean in (order, judged .legal))
+  linearizable-exactly = (λ found n listed. excluded lawful (found .1), λ clean. let (order, judged) = linearization-exists lawful clean in (order, judged .legal))
 
   -- Every history has a verdict: an order as the judge lists it, or a first pattern.
   pub verdict : (byte : ℕ) × (listed : List ℕ) × Verdict h byte listed
@@ -40,16 +42,16 @@ module _ {h : History} (lawful : Lawful h) where
     where
       go : SomeViolation h ⊎ NoViolation h → (byte : ℕ) × (listed : List ℕ) × Verdict h byte listed
       go (inl (n, listed, first)) = (n, listed, Verdict.violation first)
-      go (inr clean) = let (order, judged) = order-exists lawful clean in (orderVerdict, order, Verdict.order judged)
+      go (inr clean) = let (order, judged) = linearization-exists lawful clean in (orderVerdict, order, Verdict.linearization judged)
 
   -- It has only one: two verdicts agree in the verdict byte and, with a pattern, in the operations that they list.
   pub verdict-one : {m n : ℕ} {xs ys : List ℕ} → Verdict h m xs → Verdict h n ys → (m ≡ n) × ((m ≡ orderVerdict → ⊥) → xs ≡ ys)
-  verdict-one (Verdict.order x) (Verdict.order y) = (refl, λ pattern. absurd (pattern refl))
-  verdict-one (Verdict.order x) (Verdict.violation y) = absurd (excluded lawful (x .legal) (y .occurs))
-  verdict-one (Verdict.violation x) (Verdict.order y) = absurd (excluded lawful (y .legal) (x .occurs))
-  verdict-one (Verdict.violation x) (Verdict.violation y) = let (number, list) = first-violation-one x y in (number, λ pattern. list)
+  verdict-one (Verdict.linearization x) (Verdict.linearization y) = (refl, λ violation. absurd (violation refl))
+  verdict-one (Verdict.linearization x) (Verdict.violation y) = absurd (excluded lawful (x .legal) (y .occurs))
+  verdict-one (Verdict.violation x) (Verdict.linearization y) = absurd (excluded lawful (y .legal) (x .occurs))
+  verdict-one (Verdict.violation x) (Verdict.violation y) = let (number, list) = first-violation-one x y in (number, λ violation. list)
 
 -- The verdict byte 0 is that of an order.
-pub zero-is-order : {h : History} {byte : ℕ} {listed : List ℕ} → Verdict h byte listed → byte ≡ orderVerdict → JudgedOrder h listed
-zero-is-order (Verdict.order x) e = x
-zero-is-order (Verdict.violation x) e = absurd (omega (arith, occurs-numbered (x .occurs)))
+pub zero-is-linearization : {h : History} {byte : ℕ} {listed : List ℕ} → Verdict h byte listed → byte ≡ orderVerdict → JudgedLinearization h listed
+zero-is-linearization (Verdict.linearization x) e = x
+zero-is-linearization (Verdict.violation x) e = absurd (omega (arith, occurs-numbered (x .occurs)))

@@ -4,9 +4,10 @@ use native.Mathlib.Omega.{arith}
 use native.Mathlib.Decide.{decLt}
 use mathlib.Core.Path.{_≡_, refl, sym, ap, _∙_}
 use mathlib.Core.Logic.{_⊎_, inl, inr}
-use mathlib.Core.List.{List, [], _∷_, _++_, map}
+use mathlib.Core.List.{List, [], _∷_, _++_}
 use lib.ListN.{length, length-append, List·getD-append}
 use lib.Seq.{getD-append-seam}
+use Rattle.history.specs.Each.{Each}
 use Rattle.history.specs.Linearization.{placed, Listed}
 
 pub listed-none : {o : ℕ} → Listed [] o → ⊥
@@ -55,9 +56,9 @@ module _ (xs : List ℕ) (o : ℕ) where
       go (yes b) = rw (old-at i (omega arith), old-at j b) (old i j l b)
       go (no b) = let last : j ≡ length xs = omega (arith, longer) in rw (last, new-at, old-at i (omega arith)) (new i (omega arith))
 
-pub map-snoc : (f : ℕ → ℕ) (xs : List ℕ) (o : ℕ) → map f (xs ++ (o ∷ [])) ≡ map f xs ++ (f o ∷ [])
-map-snoc f [] o = refl
-map-snoc f (x ∷ xs) o = ap (λ l. f x ∷ l) (map-snoc f xs o)
+-- the first stands in the list
+pub listed-here : (x : ℕ) (xs : List ℕ) → Listed (x ∷ xs) x
+listed-here x xs = record { at = 0; below = omega arith; here = refl }
 
 -- what stands behind the first stands in the list, and what stands in it is the first or stands behind
 pub listed-behind : (x : ℕ) (xs : List ℕ) {p : ℕ} → Listed xs p → Listed (x ∷ xs) p
@@ -69,3 +70,8 @@ listed-first x xs {p} l = go (l .at) (l .below) (l .here)
     go : (i : ℕ) → i < length (x ∷ xs) → placed (x ∷ xs) i ≡ p → (x ≡ p) ⊎ Listed xs p
     go zero below here = inl here
     go (suc i) below here = inr (record { at = i; below = omega arith; here = here })
+
+-- What follows from a property for each follows for each of a list.
+pub each-map : {A : Type 0} {P Q : A → Type 0} → ((x : A) → P x → Q x) → (xs : List A) → Each P xs → Each Q xs
+each-map f [] e = tt
+each-map f (x ∷ xs) e = (f x (e .0), each-map f xs (e .1))

@@ -13,7 +13,7 @@ abbrev pub Compared : List ℕ → List ℕ → Type 0
 Compared xs ys = Lower xs ys ⊎ ((xs ≡ ys) ⊎ Lower ys xs)
 
 -- any two lists compare
-unfoldable pub lower-total : (xs ys : List ℕ) → Compared xs ys
+pub lower-total : (xs ys : List ℕ) → Compared xs ys
 unfolding decLt
 lower-total [] [] = inr (inl refl)
 lower-total [] (y ∷ ys) = inl ends
@@ -52,7 +52,7 @@ pub record LowestList (P : List ℕ → Type 0) : Type 0 where
   pub holds : P list
   pub none-lower : (other : List ℕ) → P other → Lower other list → ⊥
 
-abbrev pub NoList : (List ℕ → Type 0) → Type 0
+abbrev NoList : (List ℕ → Type 0) → Type 0
 NoList P = (list : List ℕ) → P list → ⊥
 
 abbrev pub Sought : (List ℕ → Type 0) → Type 0

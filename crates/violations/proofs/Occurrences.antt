@@ -24,7 +24,7 @@ occurs-of-kinds l (unknown u) = (u .removes, tt)
 occurs-of-kinds l (twice t) = (t .first, (t .second, tt))
 occurs-of-kinds l (early t) = (t .removes .removes, (t .adds, tt))
 occurs-of-kinds l (stuck t) = (t .first, (t .second, (t .removes .removes, tt)))
-occurs-of-kinds l (overtaken t) = (t .first, (t .second, (t .removes .removes, (t .removes-first .removes, tt))))
+occurs-of-kinds l (overtaken t) = (t .first, (t .second, (t .removes .removes, (t .removes-late .removes, tt))))
 occurs-of-kinds l (falseEmpty t) = absurd (omega arith)
 
 -- what occurs lists operations of the history
@@ -37,7 +37,7 @@ occurs-known (unknown u) = (u .removes .known, tt)
 occurs-known (twice t) = (t .first .known, (t .second .known, tt))
 occurs-known (early t) = (t .removes .removes .known, (t .adds .known, tt))
 occurs-known (stuck t) = (t .first .known, (t .second .known, (t .removes .removes .known, tt)))
-occurs-known (overtaken t) = (t .first .known, (t .second .known, (t .removes .removes .known, (t .removes-first .removes .known, tt))))
+occurs-known (overtaken t) = (t .first .known, (t .second .known, (t .removes .removes .known, (t .removes-late .removes .known, tt))))
 occurs-known (falseEmpty t) = (t .empties .known, chain-known (t .chained))
 
 -- what occurs is one of the six patterns

@@ -1,5 +1,5 @@
--- In a run from an empty queue the x-th remove with a value takes the value of the x-th add. What a legal order says
--- about values follows from this alone.
+-- In a run from an empty queue the x-th remove with a value takes the value of the x-th add, and at an empty remove as many
+-- values were removed as added. That a legal order rules the patterns out rests on this.
 use Prim.Native.Nat.{ℕ, zero, suc, _+_, _-_, _≤_, _<_}
 use native.Mathlib.Omega.{arith}
 use native.Mathlib.Decide.{decLt, ℕ-discrete}
@@ -15,7 +15,7 @@ use Rattle.history.specs.Linearization.{Makes, puts, takes, meets, Fifo, placed
 use Rattle.history.proofs.Queues.{fifo-first, makes-empty}
 
 -- how many of the first k operations are of a kind
-unfoldable pub rank : History → List ℕ → ℕ → ℕ → ℕ
+pub rank : History → List ℕ → ℕ → ℕ → ℕ
 rank h order kind zero = 0
 rank h order kind (suc k) = if eqb (h .kind (placed order k)) kind then suc (rank h order kind k) else rank h order kind k
 
@@ -48,11 +48,11 @@ module _ (h : History) (order : List ℕ) (kind : ℕ) where
   rank-passed i k l e = omega (arith, rank-here i e, rank-rises (suc i) k (omega arith))
 
   -- the operation with a rank
-  pub record Ranked (x k : ℕ) : Type 0 where
-    pub at : ℕ
-    pub below : at < k
-    pub kinds : h .kind (placed order at) ≡ kind
-    pub ranks : rank h order kind at ≡ x
+  record Ranked (x k : ℕ) : Type 0 where
+    at : ℕ
+    below : at < k
+    kinds : h .kind (placed order at) ≡ kind
+    ranks : rank h order kind at ≡ x
 
   ranked : (x k : ℕ) → x < rank h order kind k → Ranked x k
   unfolding rank
@@ -171,6 +171,21 @@ module _ (h : History) (order : List ℕ) where
     paired : Paired k queue
     rest : Fifo h (drop k order) queue
 
+  -- the add whose value a remove takes
+  pub record Source (l : ℕ) : Type 0 where
+    pub at : ℕ
+    pub below : at < l
+    pub adds-here : kindAt at ≡ add
+    pub same : valueAt at ≡ valueAt l
+    pub ranks : adds at ≡ removes l
+
+  -- the remove that has taken the value of an add
+  pub record Taken (i k : ℕ) : Type 0 where
+    pub at : ℕ
+    pub below : at < k
+    pub removes-here : kindAt at ≡ remove
+    pub same : valueAt at ≡ valueAt i
+
   module _ (run : Fifo h order []) where
     standing : (k : ℕ) → k ≤ length order → Standing k
     standing zero l = record { queue = []; paired = paired-none; rest = run }
@@ -181,14 +196,6 @@ module _ (h : History) (order : List ℕ) where
             let (queue', made, rest) = fifo-first (rw (drop-cons order k 0 (omega arith)) at (s .rest)) in
             record { queue = queue'; paired = paired-step k (s .paired) made; rest = rest }
 
-    -- the add whose value a remove takes
-    pub record Source (l : ℕ) : Type 0 where
-      pub at : ℕ
-      pub below : at < l
-      pub adds-here : kindAt at ≡ add
-      pub same : valueAt at ≡ valueAt l
-      pub ranks : adds at ≡ removes l
-
     pub source : (l : ℕ) → l < length order → kindAt l ≡ remove → Source l
     source l b e = record { at = r .at; below = r .below; adds-here = r .kinds; same = after .taken (r .at) l (omega (arith, r .below)) (omega arith) (r .kinds) e (r .ranks); ranks = r .ranks }
       where
@@ -197,13 +204,6 @@ module _ (h : History) (order : List ℕ) where
 
         r : Ranked h order add (removes l) l
         r = ranked h order add (removes l) l (omega (arith, after .count, rank-here h order remove l e, rank-other h order add l (λ f. omega arith)))
-
-    -- the remove that has taken the value of an add
-    pub record Taken (i k : ℕ) : Type 0 where
-      pub at : ℕ
-      pub below : at < k
-      pub removes-here : kindAt at ≡ remove
-      pub same : valueAt at ≡ valueAt i
 
     pub taken : (i k : ℕ) → i < k → k ≤ length order → kindAt i ≡ add → adds i < removes k → Taken i k
     taken i k l b e more = record { at = r .at; below = r .below; removes-here = r .kinds; same = sym (standing k b .paired .taken i (r .at) l (r .below) e (r .kinds) (sym (r .ranks))) }

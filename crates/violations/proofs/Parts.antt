@@ -7,16 +7,14 @@ use mathlib.Core.Path.{_≡_, refl, ap, _∙_}
 use mathlib.Core.List.{List, _∷_}
 use Rattle.history.specs.History.{History, Lawful, add, Precedes}
 use Rattle.history.specs.Each.{Each}
-use Rattle.violations.specs.Violations.{Is, Reaches, removed, never, Covered, AllCovered, Chain, all, link, FalseEmpty}
-use Rattle.violations.specs.Violations.{Occurs, unknown, twice, early, stuck, overtaken, falseEmpty}
+use Rattle.violations.specs.Violations.{Is, Reaches, removed, never, Covered, AllCovered, Chain, all, link, FalseEmpty, Occurs, unknown, twice, early, stuck, overtaken, falseEmpty}
 use Rattle.violations.specs.Verdict.{FirstViolation, Verdict}
 use Rattle.violations.specs.Parts.{KeptAs, Part, Kept}
 use Rattle.violations.proofs.Chains.{false-empty}
-use Rattle.violations.proofs.Precedence.{precedes-unless-after}
 use Rattle.violations.proofs.Occurrences.{occurs-numbered}
 use Rattle.violations.proofs.Excluding.{excluded}
-use Rattle.violations.proofs.Filtering.{is-valued}
-use Rattle.violations.proofs.Matching.{part-down, part-up, matched-is, matched-removes, matched-removed, part-violations}
+use Rattle.violations.proofs.Corresponding.{part-down, part-up, corresponding-is, corresponding-removes, corresponding-removed, part-violations}
+use Rattle.violations.proofs.Operations.{precedes-unless-after, is-valued}
 
 -- Where a return of h is not behind a call, it is before it in the part too.
 part-before : {h part : History} (p : Part h part) → Lawful h → (o q : ℕ) → o < part .count → q < part .count → h .ret (p .to o) ≤ h .call (p .to q) → Precedes part o q
@@ -32,12 +30,12 @@ value-covers {h} {part} p {b} same added (removed r x here) g from until later =
   where
     go : (s : ℕ) → KeptAs part (p .to) r s → Dec (g < part .call s) → Covered part g
     go s same-remove (yes l) =
-        let there : Is part add b = matched-is (part-down p) same .0 added in
-        (b, part .call s, record { adds = there; reaches = removed s (matched-removes (part-down p) same same-remove there .0 x) refl; from = from; until = l })
+        let there : Is part add b = corresponding-is (part-down p) same .0 added in
+        (b, part .call s, record { adds = there; reaches = removed s (corresponding-removes (part-down p) same same-remove there .0 x) refl; from = from; until = l })
     go s same-remove (no l) = later s (same-remove .known) (ap (h .call) (same-remove .is) ∙ here) (omega arith)
 value-covers {part} p {b} same added (never n end) g from until later =
-    let there : Is part add b = matched-is (part-down p) same .0 added in
-    (b, part .end, record { adds = there; reaches = never (λ x. n (matched-removed (part-down p) same there x)) refl; from = from; until = until })
+    let there : Is part add b = corresponding-is (part-down p) same .0 added in
+    (b, part .end, record { adds = there; reaches = never (λ x. n (corresponding-removed (part-down p) same there x)) refl; from = from; until = until })
 
 -- If all of a chain is kept, it covers in the part all gaps from a call up to the return that it leads to. Its first value
 -- was added before the call; if that is removed before the gap, the rest of the chain goes on from the call of its remove.
@@ -61,7 +59,7 @@ part-covered p laws part-laws {e = e} same keep x g gap =
 -- So each of the six patterns that lists kept operations only occurs in the part.
 pub part-keeps : {h part : History} (p : Part h part) → Lawful h → Lawful part → {n : ℕ} {listed : List ℕ} → Occurs h n listed → Each (Kept p) listed → (listed' : List ℕ) × Occurs part n listed'
 part-keeps p laws part-laws (falseEmpty x) ((e, same), keep) =
-    let (chain, f) = false-empty (matched-is (part-down p) same .0 (x .empties)) (part-covered p laws part-laws same keep x) in (e ∷ chain, falseEmpty f)
+    let (chain, f) = false-empty (corresponding-is (part-down p) same .0 (x .empties)) (part-covered p laws part-laws same keep x) in (e ∷ chain, falseEmpty f)
 part-keeps p laws part-laws (unknown x) keep = part-violations p 1 (omega arith) .1 (_, unknown x, keep)
 part-keeps p laws part-laws (twice x) keep = part-violations p 2 (omega arith) .1 (_, twice x, keep)
 part-keeps p laws part-laws (early x) keep = part-violations p 3 (omega arith) .1 (_, early x, keep)
@@ -71,7 +69,7 @@ part-keeps p laws part-laws (overtaken x) keep = part-violations p 5 (omega arit
 -- A part that keeps all that the first pattern of the history lists has the same verdict byte: that pattern occurs in it, and no
 -- lower one does, since it would be one of 1 to 5 and occur in the history.
 pub part-verdict : {h part : History} (p : Part h part) → Lawful h → Lawful part → {m n : ℕ} {xs ys : List ℕ} → FirstViolation h m xs → Each (Kept p) xs → Verdict part n ys → m ≡ n
-part-verdict p laws part-laws x keep (Verdict.order y) = absurd (excluded part-laws (y .legal) (part-keeps p laws part-laws (x .occurs) keep .1))
+part-verdict p laws part-laws x keep (Verdict.linearization y) = absurd (excluded part-laws (y .legal) (part-keeps p laws part-laws (x .occurs) keep .1))
 part-verdict p laws part-laws {m} {n} {ys = ys} x keep (Verdict.violation y) =
     let there = part-keeps p laws part-laws (x .occurs) keep in
     let not-lower : m < n → ⊥ = λ l. y .lowest-number m (there .0) l (there .1) in

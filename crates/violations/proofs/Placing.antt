@@ -1,19 +1,20 @@
 -- The search for an order, step by step: it starts, it may place any operation that is placeable, and where nothing is
--- left it has listed a legal order. For this only patterns 1 and 2 have to be ruled out.
+-- left it has listed a legal order. For this only pattern 2 has to be ruled out.
 use Prim.Native.Nat.{ℕ, suc, _≤_, _<_}
 use native.Mathlib.Omega.{arith}
 use native.Mathlib.Decide.{ℕ-discrete}
-use mathlib.Core.Path.{_≡_, refl, sym, ap, _∙_}
+use mathlib.Core.Path.{_≡_, sym, ap, _∙_}
 use mathlib.Core.Logic.{_⊎_, inl, inr, _↔_}
-use mathlib.Core.List.{List, [], _∷_, map, append-nil}
+use mathlib.Core.List.{List, [], _∷_, map, append-nil, map-append}
 use lib.Seq.{append-snoc}
 use Rattle.history.specs.History.{History, add, emptyRemove, Returned, Precedes, Lawful}
 use Rattle.history.specs.Linearization.{Makes, puts, takes, meets, done, then, Listed}
 use Rattle.history.proofs.Deciding.{listed?}
 use Rattle.violations.specs.Violations.{Is, RemoveOf, Removed}
-use Rattle.violations.specs.Verdict.{JudgedOrder}
-use Rattle.violations.specs.Search.{Matched, Due, Left, Safe, Serves, enqueues, dequeues, meets-empty, Placeable, Queued, Searched}
-use Rattle.violations.proofs.Lists.{snoc, listed-none, listed-old, listed-new, listed-either, each-snoc, pairs-snoc, map-snoc, listed-behind, listed-first}
+use Rattle.violations.specs.Verdict.{JudgedLinearization}
+use Rattle.violations.specs.Search.{Single, Due, Left, Safe, Serves, enqueues, dequeues, meets-empty, Placeable, Queued, Searched}
+use Rattle.violations.proofs.Lists.{snoc, listed-none, listed-old, listed-new, listed-either, each-snoc, pairs-snoc, listed-behind, listed-first, listed-here}
+use Rattle.violations.proofs.Operations.{is-returned, same-adder}
 
 -- what is left when one more operation is placed
 module _ {h : History} (order : List ℕ) (o : ℕ) where
@@ -50,86 +51,85 @@ empty-queue both = record {
   before-empties = λ i e l. absurd (omega arith);
 }
 
-module _ {h : History} {reach gap : ℕ → ℕ} {order : List ℕ} {o : ℕ} (left : Left h order o) where
-  -- an add that is placed is the last in the queue
-  queue-add : {queue : List ℕ} → Queued h reach gap order queue → h .kind o ≡ add → Safe h reach gap order o → Queued h reach gap (snoc order o) (snoc queue o)
-  queue-add {queue} s k safe = record {
-    added = λ a l. added (listed-either queue o l);
-    apart = pairs-snoc queue o (λ x y. x ≡ y → ⊥) (s .apart) (λ i l e. left .unplaced (s .added o (record { at = i; below = l; here = e }) .1));
-    served = λ a r is out. (λ l. behind (ℕ-discrete o a) (s .served a r is out .0 (left-before order o l)), λ l. left-still order o (s .served a r is out .1 (before l)) (another (out .removes) (λ e. omega arith)));
-    before-adds = λ i b r l is m out. each-snoc queue o (λ q. reach q < h .ret r) (λ j n. s .before-adds j b r n is (left-before order o m) out) (safe .removes b r is (left-before order o m) out) i l;
-    before-queued = λ i j r. pairs-snoc queue o (λ x y. RemoveOf h y r → reach x < h .ret r) (λ x y. s .before-queued x y r) (λ x l. s .before-adds x o r l adding left) i j;
-    before-empties = λ i e l is m. each-snoc queue o (λ q. reach q ≤ gap e) (λ j n. s .before-empties j e n is (left-before order o m)) (safe .empties e is (left-before order o m)) i l;
-  }
-    where
-      adding : Is h add o
-      adding = record { known = left .due .known; kinds = k }
+-- an add that is placed is the last in the queue
+queue-add : {h : History} {reach gap : ℕ → ℕ} {order queue : List ℕ} {o : ℕ} → Left h order o → Queued h reach gap order queue → h .kind o ≡ add → Safe h reach gap order o → Queued h reach gap (snoc order o) (snoc queue o)
+queue-add {h} {reach} {gap} {order} {queue} {o} left s k safe = record {
+  added = λ a l. added (listed-either queue o l);
+  apart = pairs-snoc queue o (λ x y. x ≡ y → ⊥) (s .apart) (λ i l e. left .unplaced (s .added o (record { at = i; below = l; here = e }) .1));
+  served = λ a r is out. (λ l. behind (ℕ-discrete o a) (s .served a r is out .0 (left-before order o l)), λ l. left-still order o (s .served a r is out .1 (before l)) (another (out .removes) (λ e. omega arith)));
+  before-adds = λ i b r l is m out. each-snoc queue o (λ q. reach q < h .ret r) (λ j n. s .before-adds j b r n is (left-before order o m) out) (safe .removes b r is (left-before order o m) out) i l;
+  before-queued = λ i j r. pairs-snoc queue o (λ x y. RemoveOf h y r → reach x < h .ret r) (λ x y. s .before-queued x y r) (λ x l. s .before-adds x o r l adding left) i j;
+  before-empties = λ i e l is m. each-snoc queue o (λ q. reach q ≤ gap e) (λ j n. s .before-empties j e n is (left-before order o m)) (safe .empties e is (left-before order o m)) i l;
+}
+  where
+    adding : Is h add o
+    adding = record { known = left .due .known; kinds = k }
 
-      added : {a : ℕ} → Listed queue a ⊎ (o ≡ a) → Is h add a × Listed (snoc order o) a
-      added {a} (inl l) = (s .added a l .0, listed-old order o (s .added a l .1))
-      added (inr e) = rw (← e) (adding, listed-new order o)
+    added : {a : ℕ} → Listed queue a ⊎ (o ≡ a) → Is h add a × Listed (snoc order o) a
+    added {a} (inl l) = (s .added a l .0, listed-old order o (s .added a l .1))
+    added (inr e) = rw (← e) (adding, listed-new order o)
 
-      behind : {a : ℕ} → Dec (o ≡ a) → Left h order a ⊎ Listed queue a → Left h (snoc order o) a ⊎ Listed (snoc queue o) a
-      behind (yes e) d = inr (rw (← e) (listed-new queue o))
-      behind (no n) (inl l) = inl (left-still order o l n)
-      behind (no n) (inr l) = inr (listed-old queue o l)
+    behind : {a : ℕ} → Dec (o ≡ a) → Left h order a ⊎ Listed queue a → Left h (snoc order o) a ⊎ Listed (snoc queue o) a
+    behind (yes e) d = inr (rw (← e) (listed-new queue o))
+    behind (no n) (inl l) = inl (left-still order o l n)
+    behind (no n) (inr l) = inr (listed-old queue o l)
 
-      before : {a : ℕ} → Left h (snoc order o) a ⊎ Listed (snoc queue o) a → Left h order a ⊎ Listed queue a
-      before (inl l) = inl (left-before order o l)
-      before {a} (inr l) = go (listed-either queue o l)
-        where
-          go : Listed queue a ⊎ (o ≡ a) → Left h order a ⊎ Listed queue a
-          go (inl m) = inr m
-          go (inr e) = inl (rw (← e) left)
+    before : {a : ℕ} → Left h (snoc order o) a ⊎ Listed (snoc queue o) a → Left h order a ⊎ Listed queue a
+    before (inl l) = inl (left-before order o l)
+    before {a} (inr l) = go (listed-either queue o l)
+      where
+        go : Listed queue a ⊎ (o ≡ a) → Left h order a ⊎ Listed queue a
+        go (inl m) = inr m
+        go (inr e) = inl (rw (← e) left)
 
-  -- a remove that is placed takes the first from the queue
-  queue-remove : {a : ℕ} {queue : List ℕ} → Lawful h → Matched h reach → Queued h reach gap order (a ∷ queue) → RemoveOf h a o → Queued h reach gap (snoc order o) queue
-  queue-remove {a} {queue} lawful matched s out = record {
-    added = λ b l. (s .added b (listed-behind a queue l) .0, listed-old order o (s .added b (listed-behind a queue l) .1));
-    apart = λ i j l m. s .apart (suc i) (suc j) (omega arith) (omega arith);
-    served = λ b r is off. (λ l. behind is off l (s .served b r is off .0 (left-before order o l)), λ l. left-still order o (s .served b r is off .1 (before l)) (λ e. gone is (rw (← e) at off) l));
-    before-adds = λ i b r l is m. s .before-adds (suc i) b r (omega arith) is (left-before order o m);
-    before-queued = λ i j r l m. s .before-queued (suc i) (suc j) r (omega arith) (omega arith);
-    before-empties = λ i e l is m. s .before-empties (suc i) e (omega arith) is (left-before order o m);
-  }
-    where
-      front : Is h add a × Listed order a
-      front = s .added a (record { at = 0; below = omega arith; here = refl })
+-- a remove that is placed takes the first from the queue
+queue-remove : {h : History} {reach gap : ℕ → ℕ} {order queue : List ℕ} {a o : ℕ} → Lawful h → Single h → Queued h reach gap order (a ∷ queue) → RemoveOf h a o → Queued h reach gap (snoc order o) queue
+queue-remove {h} {order = order} {queue} {a} {o} lawful single s out = record {
+  added = λ b l. (s .added b (listed-behind a queue l) .0, listed-old order o (s .added b (listed-behind a queue l) .1));
+  apart = λ i j l m. s .apart (suc i) (suc j) (omega arith) (omega arith);
+  served = λ b r is off. (λ l. behind is off l (s .served b r is off .0 (left-before order o l)), λ l. left-still order o (s .served b r is off .1 (before l)) (λ e. gone is (rw (← e) at off) l));
+  before-adds = λ i b r l is m. s .before-adds (suc i) b r (omega arith) is (left-before order o m);
+  before-queued = λ i j r l m. s .before-queued (suc i) (suc j) r (omega arith) (omega arith);
+  before-empties = λ i e l is m. s .before-empties (suc i) e (omega arith) is (left-before order o m);
+}
+  where
+    front : Is h add a × Listed order a
+    front = s .added a (listed-here a queue)
 
-      -- another remove that is left is of another value
-      behind : {b r : ℕ} → Is h add b → RemoveOf h b r → Left h (snoc order o) r → Left h order b ⊎ Listed (a ∷ queue) b → Left h (snoc order o) b ⊎ Listed queue b
-      behind is off l (inl m) = inl (left-still order o m (another is (λ e. omega (arith, out .removes .kinds))))
-      behind {b} {r} is off l (inr m) = go (listed-first a queue m)
-        where
-          go : (a ≡ b) ⊎ Listed queue b → Left h (snoc order o) b ⊎ Listed queue b
-          go (inl e) = absurd (left-other order o l (matched .single o r (out .removes) (off .removes) (out .same ∙ ap (h .value) e ∙ sym (off .same))))
-          go (inr n) = inr n
+    -- another remove that is left is of another value
+    behind : {b r : ℕ} → Is h add b → RemoveOf h b r → Left h (snoc order o) r → Left h order b ⊎ Listed (a ∷ queue) b → Left h (snoc order o) b ⊎ Listed queue b
+    behind is off l (inl m) = inl (left-still order o m (another is (λ e. omega (arith, out .removes .kinds))))
+    behind {b} {r} is off l (inr m) = go (listed-first a queue m)
+      where
+        go : (a ≡ b) ⊎ Listed queue b → Left h (snoc order o) b ⊎ Listed queue b
+        go (inl e) = absurd (left-other order o l (single o r (out .removes) (off .removes) (out .same ∙ ap (h .value) e ∙ sym (off .same))))
+        go (inr n) = inr n
 
-      before : {b : ℕ} → Left h (snoc order o) b ⊎ Listed queue b → Left h order b ⊎ Listed (a ∷ queue) b
-      before (inl l) = inl (left-before order o l)
-      before (inr l) = inr (listed-behind a queue l)
+    before : {b : ℕ} → Left h (snoc order o) b ⊎ Listed queue b → Left h order b ⊎ Listed (a ∷ queue) b
+    before (inl l) = inl (left-before order o l)
+    before (inr l) = inr (listed-behind a queue l)
 
-      -- the add at the front is neither left nor in the queue again
-      gone : {b : ℕ} → Is h add b → RemoveOf h b o → Left h (snoc order o) b ⊎ Listed queue b → ⊥
-      gone {b} is off l = go l
-        where
-          same : a ≡ b
-          same = lawful .once a b (front .0 .known) (is .known) (front .0 .kinds) (is .kinds) (sym (out .same) ∙ off .same)
+    -- the add at the front is neither left nor in the queue again
+    gone : {b : ℕ} → Is h add b → RemoveOf h b o → Left h (snoc order o) b ⊎ Listed queue b → ⊥
+    gone {b} is off l = go l
+      where
+        same : a ≡ b
+        same = same-adder lawful (front .0) is out off
 
-          go : Left h (snoc order o) b ⊎ Listed queue b → ⊥
-          go (inl m) = left-before order o m .unplaced (rw (← same) (front .1))
-          go (inr m) = s .apart 0 (suc (m .at)) (omega arith) (omega (arith, m .below)) (same ∙ sym (m .here))
+        go : Left h (snoc order o) b ⊎ Listed queue b → ⊥
+        go (inl m) = left-before order o m .unplaced (rw (← same) (front .1))
+        go (inr m) = s .apart 0 (suc (m .at)) (omega arith) (omega (arith, m .below)) (same ∙ sym (m .here))
 
-  -- an empty remove leaves the queue empty
-  queue-empty : Queued h reach gap order [] → h .kind o ≡ emptyRemove → Queued h reach gap (snoc order o) []
-  queue-empty s k = empty-queue (λ a r is out. (
-    λ l. left-still order o (left-alone (s .served a r is out .0 (left-before order o l))) (another is (λ e. omega arith)),
-    λ l. left-still order o (s .served a r is out .1 (inl (left-before order o l))) (another (out .removes) (λ e. omega arith)),
-  ))
+-- an empty remove leaves the queue empty
+queue-empty : {h : History} {reach gap : ℕ → ℕ} {order : List ℕ} (o : ℕ) → Queued h reach gap order [] → h .kind o ≡ emptyRemove → Queued h reach gap (snoc order o) []
+queue-empty {order = order} o s k = empty-queue (λ a r is out. (
+  λ l. left-still order o (left-alone (s .served a r is out .0 (left-before order o l))) (another is (λ e. omega arith)),
+  λ l. left-still order o (s .served a r is out .1 (inl (left-before order o l))) (another (out .removes) (λ e. omega arith)),
+))
 
 -- an operation that is placed makes of the values in the queue what it makes of the queue
 serves-makes : {h : History} {reach gap : ℕ → ℕ} {order queue queue' : List ℕ} {o : ℕ} → Serves h reach gap order o queue queue' → Makes h o (map (h .value) queue) (map (h .value) queue')
-serves-makes {h} {o = o} (enqueues {queue = queue} e safe) = rw (map-snoc (h .value) queue o) (puts e)
+serves-makes {h} {o = o} (enqueues {queue = queue} e safe) = rw (map-append (h .value) queue (o ∷ [])) (puts e)
 serves-makes (dequeues out) = takes (out .removes .kinds) (out .same)
 serves-makes (meets-empty e) = meets e
 
@@ -146,12 +146,12 @@ module _ {h : History} (lawful : Lawful h) where
   }
     where
       remove-due : {a r : ℕ} → RemoveOf h a r → Due h r
-      remove-due {r = r} out = record { known = out .removes .known; listed = inl (lawful .returned r (out .removes .known) (λ e. omega (arith, out .removes .kinds))) }
+      remove-due out = record { known = out .removes .known; listed = inl (is-returned lawful (out .removes) (omega arith)) }
 
   module _ {reach gap : ℕ → ℕ} {order queue : List ℕ} (s : Searched h reach gap order queue) where
     -- any placeable operation may be placed
-    pub search-places : Matched h reach → {queue' : List ℕ} {o : ℕ} → Placeable h reach gap order queue o queue' → Searched h reach gap (snoc order o) queue'
-    search-places matched {queue'} {o} p = record {
+    pub search-places : Single h → {queue' : List ℕ} {o : ℕ} → Placeable h reach gap order queue o queue' → Searched h reach gap (snoc order o) queue'
+    search-places single {queue'} {o} p = record {
       due = each-snoc order o (λ x. Due h x) (s .due) (p .enabled .left .due);
       once = pairs-snoc order o (λ x y. x ≡ y → ⊥) (s .once) (λ i l e. p .enabled .left .unplaced (record { at = i; below = l; here = e }));
       keeps = pairs-snoc order o (λ x y. Precedes h y x → ⊥) (s .keeps) (λ i l. s .ahead i o l (p .enabled .left));
@@ -162,29 +162,29 @@ module _ {h : History} (lawful : Lawful h) where
       where
         go : {queue queue' : List ℕ} → Queued h reach gap order queue → Serves h reach gap order o queue queue' → Queued h reach gap (snoc order o) queue'
         go q (enqueues k safe) = queue-add (p .enabled .left) q k safe
-        go q (dequeues out) = queue-remove (p .enabled .left) lawful matched q out
-        go q (meets-empty k) = queue-empty (p .enabled .left) q k
+        go q (dequeues out) = queue-remove lawful single q out
+        go q (meets-empty k) = queue-empty o q k
 
-    -- where nothing is left, a legal order is listed, with a pending add exactly if its value was removed
-    pub search-ends : ((o : ℕ) → Left h order o → ⊥) → JudgedOrder h order
-    search-ends none = record {
-      legal = record {
-        known = λ i l. s .due i l .known;
-        every = λ o l returned. listed (record { known = l; listed = inl returned });
-        once = s .once;
-        keeps = s .keeps;
-        runs = rw (append-nil order) at (s .runs [] done);
-      };
-      pending = λ a l unreturned. (λ m. removed unreturned (rw (m .here) at (s .due (m .at) (m .below)) .listed), λ r. listed (record { known = l; listed = inr r }));
-    }
+-- where nothing is left, a legal order is listed, with a pending add exactly if its value was removed
+pub search-ends : {h : History} {reach gap : ℕ → ℕ} {order queue : List ℕ} → Searched h reach gap order queue → ((o : ℕ) → Left h order o → ⊥) → JudgedLinearization h order
+search-ends {h} {order = order} s none = record {
+  legal = record {
+    known = λ i l. s .due i l .known;
+    every = λ o l returned. listed (record { known = l; listed = inl returned });
+    once = s .once;
+    keeps = s .keeps;
+    runs = rw (append-nil order) at (s .runs [] done);
+  };
+  pending = λ a l unreturned. (λ m. removed unreturned (rw (m .here) at (s .due (m .at) (m .below)) .listed), λ r. listed (record { known = l; listed = inr r }));
+}
+  where
+    listed : {o : ℕ} → Due h o → Listed order o
+    listed {o} due = go (listed? order o)
       where
-        listed : {o : ℕ} → Due h o → Listed order o
-        listed {o} due = go (listed? order o)
-          where
-            go : Dec (Listed order o) → Listed order o
-            go (yes l) = l
-            go (no n) = absurd (none o (record { due = due; unplaced = n }))
+        go : Dec (Listed order o) → Listed order o
+        go (yes l) = l
+        go (no n) = absurd (none o (record { due = due; unplaced = n }))
 
-        removed : {a : ℕ} → (Returned h a → ⊥) → Returned h a ⊎ Removed h a → Removed h a
-        removed unreturned (inl r) = absurd (unreturned r)
-        removed unreturned (inr r) = r
+    removed : {a : ℕ} → (Returned h a → ⊥) → Returned h a ⊎ Removed h a → Removed h a
+    removed unreturned (inl r) = absurd (unreturned r)
+    removed unreturned (inr r) = r

@@ -5,13 +5,13 @@ use Rattle.history.specs.Each.{Each}
 use Rattle.history.specs.History.{History}
 use Rattle.history.specs.Runs.{Holds}
 use Rattle.history.proofs.Rows.{each?, history, reading, rows-hold}
-use Rattle.violations.specs.Runs.{Expected, order, violation, Judged, runs, picks}
-use Rattle.violations.proofs.Deciding.{first-violation?, judged-order?}
+use Rattle.violations.specs.Runs.{Expected, linearization, violation, Judged, runs, picks}
+use Rattle.violations.proofs.Deciding.{first-violation?, judged-linearization?}
 
 -- whether what is expected is right
 judged? : (h : History) (expected : Expected) → Dec (Judged h expected)
-unfolding judged-order? first-violation?
-judged? h (order listed) = judged-order? h listed
+unfolding judged-linearization? first-violation?
+judged? h (linearization listed) = judged-linearization? h listed
 judged? h (violation number listed) = first-violation? h number listed
 
 pub runs-hold : Each (Holds Judged) runs

@@ -1,4 +1,6 @@
--- Parts of a history, and histories that are alike.
+-- Parts of a history, and histories that are alike. Document 01's excerpt and narrowing keep "all records of all operations" on
+-- some values, an excerpt one empty remove too: the history of such a log is a part. Where two neighbouring calls or returns
+-- "trade places" (demand 3), the histories of the two logs are alike.
 use Prim.Native.Nat.{ℕ, _<_}
 use mathlib.Core.Path.{_≡_}
 use mathlib.Core.Logic.{_↔_}
@@ -22,6 +24,7 @@ pub record Part (h part : History) : Type 0 where
   pub to : ℕ → ℕ
   pub known : (o : ℕ) → o < part .count → to o < h .count
   pub one : (o p : ℕ) → o < part .count → p < part .count → to o ≡ to p → o ≡ p
+  -- kind, openness and precedence are kept, and values match one-to-one
   pub kind : (o : ℕ) → o < part .count → h .kind (to o) ≡ part .kind o
   pub returned : (o : ℕ) → o < part .count → Returned h (to o) ↔ Returned part o
   pub precedes : (o p : ℕ) → o < part .count → p < part .count → Precedes h (to o) (to p) ↔ Precedes part o p

@@ -1,48 +1,48 @@
--- Document 01, "Runs": the runs marked *, in the document's order, with the verdict that it gives for each. A second table
--- shows what is reported where the starred runs leave it open: other patterns, several occurrences, ties, open adds. What a run
--- and a row are is said in the crate history.
+-- Document 01, "Runs". The table `runs` has the runs marked *, in the document's order, with the verdict that it gives for each.
+-- The table `picks` shows what is reported where they leave it open: its first three rows are the document's other runs with
+-- a verdict, the rest have several occurrences, ties or open adds. What a run and a row are is said in the crate history.
 use Prim.Native.Nat.{ℕ}
 use mathlib.Core.List.{List, [], _∷_}
 use Rattle.reader.specs.declared.record.Removed.the-variants.{Value, Empty}
 use Rattle.reader.specs.declared.record.Event.the-variants.{CallAdd, CallRemove, ReturnAdd, ReturnRemove}
 use Rattle.history.specs.History.{History}
 use Rattle.history.specs.Runs.{Row}
-use Rattle.violations.specs.Verdict.{FirstViolation, JudgedOrder}
+use Rattle.violations.specs.Verdict.{FirstViolation, JudgedLinearization}
 
--- the verdict that document 01 gives for a run: an order, or a pattern with the operations that it lists
+-- the verdict given for a run: an order, or a pattern with the operations that it lists
 pub data Expected : Type 0 where
-  order : List ℕ → Expected
+  linearization : List ℕ → Expected
   violation : ℕ → List ℕ → Expected
 
--- What document 01 says of a run's verdict is right for a history.
+-- What a row says of the verdict is right for a history.
 abbrev pub Judged : History → Expected → Type 0
-Judged h (order listed) = JudgedOrder h listed
+Judged h (linearization listed) = JudgedLinearization h listed
 Judged h (violation number listed) = FirstViolation h number listed
 
 abbrev pub runs : List (Row Expected)
 runs =
     -- no records: order, k = 0
-    record { run = []; says = order [] } ∷
+    record { run = []; says = linearization [] } ∷
     -- A7( A7) R( R7): order 0 1
-    record { run = (0, CallAdd 7) ∷ (0, ReturnAdd) ∷ (1, CallRemove) ∷ (1, ReturnRemove (Value 7)) ∷ []; says = order (0 ∷ 1 ∷ []) } ∷
+    record { run = (0, CallAdd 7) ∷ (0, ReturnAdd) ∷ (1, CallRemove) ∷ (1, ReturnRemove (Value 7)) ∷ []; says = linearization (0 ∷ 1 ∷ []) } ∷
     -- R( A7( R7) A7): order 1 0
-    record { run = (0, CallRemove) ∷ (1, CallAdd 7) ∷ (0, ReturnRemove (Value 7)) ∷ (1, ReturnAdd) ∷ []; says = order (1 ∷ 0 ∷ []) } ∷
+    record { run = (0, CallRemove) ∷ (1, CallAdd 7) ∷ (0, ReturnRemove (Value 7)) ∷ (1, ReturnAdd) ∷ []; says = linearization (1 ∷ 0 ∷ []) } ∷
     -- R( R7) A7( A7): pattern 3, 0 1
     record { run = (0, CallRemove) ∷ (0, ReturnRemove (Value 7)) ∷ (1, CallAdd 7) ∷ (1, ReturnAdd) ∷ []; says = violation 3 (0 ∷ 1 ∷ []) } ∷
     -- A7( R( R-): order 1
-    record { run = (0, CallAdd 7) ∷ (1, CallRemove) ∷ (1, ReturnRemove Empty) ∷ []; says = order (1 ∷ []) } ∷
+    record { run = (0, CallAdd 7) ∷ (1, CallRemove) ∷ (1, ReturnRemove Empty) ∷ []; says = linearization (1 ∷ []) } ∷
     -- A1( A1) A2( A2) R( R2): pattern 4, 0 1 2
     record { run = (0, CallAdd 1) ∷ (0, ReturnAdd) ∷ (1, CallAdd 2) ∷ (1, ReturnAdd) ∷ (2, CallRemove) ∷ (2, ReturnRemove (Value 2)) ∷ []; says = violation 4 (0 ∷ 1 ∷ 2 ∷ []) } ∷
     -- A1( A2( A1) A2) R( R2): order 1 0 2
-    record { run = (0, CallAdd 1) ∷ (1, CallAdd 2) ∷ (0, ReturnAdd) ∷ (1, ReturnAdd) ∷ (2, CallRemove) ∷ (2, ReturnRemove (Value 2)) ∷ []; says = order (1 ∷ 0 ∷ 2 ∷ []) } ∷
+    record { run = (0, CallAdd 1) ∷ (1, CallAdd 2) ∷ (0, ReturnAdd) ∷ (1, ReturnAdd) ∷ (2, CallRemove) ∷ (2, ReturnRemove (Value 2)) ∷ []; says = linearization (1 ∷ 0 ∷ 2 ∷ []) } ∷
     -- A1( A1) A2( A2) R( R2) R( R1): pattern 5, 0 1 2 3
     record { run = (0, CallAdd 1) ∷ (0, ReturnAdd) ∷ (1, CallAdd 2) ∷ (1, ReturnAdd) ∷ (2, CallRemove) ∷ (2, ReturnRemove (Value 2)) ∷ (3, CallRemove) ∷ (3, ReturnRemove (Value 1)) ∷ []; says = violation 5 (0 ∷ 1 ∷ 2 ∷ 3 ∷ []) } ∷
     -- A1( A1) A2( A2) Ra( Rb( Ra2) Rb1): order 0 1 3 2
-    record { run = (0, CallAdd 1) ∷ (0, ReturnAdd) ∷ (1, CallAdd 2) ∷ (1, ReturnAdd) ∷ (2, CallRemove) ∷ (3, CallRemove) ∷ (2, ReturnRemove (Value 2)) ∷ (3, ReturnRemove (Value 1)) ∷ []; says = order (0 ∷ 1 ∷ 3 ∷ 2 ∷ []) } ∷
+    record { run = (0, CallAdd 1) ∷ (0, ReturnAdd) ∷ (1, CallAdd 2) ∷ (1, ReturnAdd) ∷ (2, CallRemove) ∷ (3, CallRemove) ∷ (2, ReturnRemove (Value 2)) ∷ (3, ReturnRemove (Value 1)) ∷ []; says = linearization (0 ∷ 1 ∷ 3 ∷ 2 ∷ []) } ∷
     -- A1( A1) Ra( A2( A2) Rb( Rb1) Ra-) R( R2): pattern 6, 1 0 2
     record { run = (0, CallAdd 1) ∷ (0, ReturnAdd) ∷ (1, CallRemove) ∷ (2, CallAdd 2) ∷ (2, ReturnAdd) ∷ (3, CallRemove) ∷ (3, ReturnRemove (Value 1)) ∷ (1, ReturnRemove Empty) ∷ (4, CallRemove) ∷ (4, ReturnRemove (Value 2)) ∷ []; says = violation 6 (1 ∷ 0 ∷ 2 ∷ []) } ∷
     -- A1( A1) Ra( A2( Rb( A2) Rb1) Ra-) R( R2): order 0 3 1 2 4
-    record { run = (0, CallAdd 1) ∷ (0, ReturnAdd) ∷ (1, CallRemove) ∷ (2, CallAdd 2) ∷ (3, CallRemove) ∷ (2, ReturnAdd) ∷ (3, ReturnRemove (Value 1)) ∷ (1, ReturnRemove Empty) ∷ (4, CallRemove) ∷ (4, ReturnRemove (Value 2)) ∷ []; says = order (0 ∷ 3 ∷ 1 ∷ 2 ∷ 4 ∷ []) } ∷
+    record { run = (0, CallAdd 1) ∷ (0, ReturnAdd) ∷ (1, CallRemove) ∷ (2, CallAdd 2) ∷ (3, CallRemove) ∷ (2, ReturnAdd) ∷ (3, ReturnRemove (Value 1)) ∷ (1, ReturnRemove Empty) ∷ (4, CallRemove) ∷ (4, ReturnRemove (Value 2)) ∷ []; says = linearization (0 ∷ 3 ∷ 1 ∷ 2 ∷ 4 ∷ []) } ∷
     -- A0( A0) R( R-): pattern 6, 1 0
     record { run = (0, CallAdd 0) ∷ (0, ReturnAdd) ∷ (1, CallRemove) ∷ (1, ReturnRemove Empty) ∷ []; says = violation 6 (1 ∷ 0 ∷ []) } ∷
     []
@@ -54,7 +54,7 @@ picks =
     -- A7( A7) R( R7) R( R7): pattern 2, 1 2
     record { run = (0, CallAdd 7) ∷ (0, ReturnAdd) ∷ (1, CallRemove) ∷ (1, ReturnRemove (Value 7)) ∷ (2, CallRemove) ∷ (2, ReturnRemove (Value 7)) ∷ []; says = violation 2 (1 ∷ 2 ∷ []) } ∷
     -- A7( R( R7): order 0 1, with the open add, since its value was removed
-    record { run = (0, CallAdd 7) ∷ (1, CallRemove) ∷ (1, ReturnRemove (Value 7)) ∷ []; says = order (0 ∷ 1 ∷ []) } ∷
+    record { run = (0, CallAdd 7) ∷ (1, CallRemove) ∷ (1, ReturnRemove (Value 7)) ∷ []; says = linearization (0 ∷ 1 ∷ []) } ∷
     -- A1( A1) A2( R( R2): the open add may be add b, pattern 4, 0 1 2
     record { run = (0, CallAdd 1) ∷ (0, ReturnAdd) ∷ (1, CallAdd 2) ∷ (2, CallRemove) ∷ (2, ReturnRemove (Value 2)) ∷ []; says = violation 4 (0 ∷ 1 ∷ 2 ∷ []) } ∷
     -- R( R7) A7(: the open add is behind its remove, pattern 3, 0 1

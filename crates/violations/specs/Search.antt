@@ -1,5 +1,5 @@
 -- The search for an order, as code sees it: operations are placed one after the other, on a queue of adds. `reach` and
--- `gap` are tables of the code: where the value of an add stops to cover, and a gap of an empty remove. What a verdict is
+-- `gap` are tables of the code: where the value of an add stops covering, and a gap of an empty remove. What a verdict is
 -- can be understood without this file.
 use Prim.Native.Nat.{ℕ, _≤_, _<_}
 use mathlib.Core.Path.{_≡_}
@@ -10,18 +10,22 @@ use Rattle.history.specs.History.{History, add, remove, emptyRemove, Returned, 
 use Rattle.history.specs.Linearization.{Fifo, placed, Listed}
 use Rattle.violations.specs.Violations.{Is, RemoveOf, Removed, Gap, Reaches, Covered}
 
+-- Pattern 2 does not occur: no value is removed twice.
+abbrev pub Single : History → Type 0
+Single h = (r s : ℕ) → Is h remove r → Is h remove s → h .value r ≡ h .value s → r ≡ s
+
 -- The table `reach` is right, and patterns 1 and 2 do not occur: each remove has its add, and no other remove has its value.
 pub record Matched (h : History) (reach : ℕ → ℕ) : Type 0 where
   pub reaches : (a : ℕ) → Is h add a → Reaches h a (reach a)
   pub named : (r : ℕ) → Is h remove r → (a : ℕ) × Is h add a × RemoveOf h a r
-  pub single : (r s : ℕ) → Is h remove r → Is h remove s → h .value r ≡ h .value s → r ≡ s
+  pub single : Single h
 
 -- Patterns 3 to 6 do not occur either, and the table `gap` tells for each empty remove a gap that no value covers.
 pub record Sound (h : History) (reach gap : ℕ → ℕ) : Type 0 where
   pub matched : Matched h reach
   -- 3: an add is called before its remove returns
   pub timely : (a r : ℕ) → Is h add a → RemoveOf h a r → h .call a < h .ret r
-  -- 4 and 5: the value of an add that precedes another is removed before the other's remove returns
+  -- 4 and 5: the remove of an add that precedes another is called before the other's remove returns
   pub in-turn : (a b r : ℕ) → Is h add a → Is h add b → Precedes h a b → RemoveOf h b r → reach a < h .ret r
   -- 6: each empty remove has a gap that no value covers
   pub gaps : (e : ℕ) → Is h emptyRemove e → Gap h e (gap e)
@@ -42,7 +46,8 @@ pub record Enabled (h : History) (order : List ℕ) (o : ℕ) : Type 0 where
   pub left : Left h order o
   pub first : (p : ℕ) → Left h order p → h .call o < h .ret p
 
--- The value of an add, once it is in the queue, does not block a remove or an empty remove that is left.
+-- An add may enter the queue: its remove is called before the remove of any add that is left returns, and no later than the
+-- gap of each empty remove that is left.
 pub record Safe (h : History) (reach gap : ℕ → ℕ) (order : List ℕ) (a : ℕ) : Type 0 where
   pub removes : (b r : ℕ) → Is h add b → Left h order b → RemoveOf h b r → reach a < h .ret r
   pub empties : (e : ℕ) → Is h emptyRemove e → Left h order e → reach a ≤ gap e

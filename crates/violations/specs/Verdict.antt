@@ -22,11 +22,11 @@ pub record FirstViolation (h : History) (number : ℕ) (listed : List ℕ) : Typ
 
 -- A legal order as the judge lists it: "The judge lists an open add exactly if its value was removed." (What is open is an
 -- add.)
-pub record JudgedOrder (h : History) (order : List ℕ) : Type 0 where
+pub record JudgedLinearization (h : History) (order : List ℕ) : Type 0 where
   pub legal : Linearization h order
   pub pending : (a : ℕ) → a < h .count → (Returned h a → ⊥) → Listed order a ↔ Removed h a
 
 -- A verdict: the verdict byte, "0 for an order or the pattern number", and the operations that the sheet lists.
 pub data Verdict (h : History) : ℕ → List ℕ → Type 0 where
-  order : {listed : List ℕ} → JudgedOrder h listed → Verdict h orderVerdict listed
+  linearization : {listed : List ℕ} → JudgedLinearization h listed → Verdict h orderVerdict listed
   violation : {number : ℕ} {listed : List ℕ} → FirstViolation h number listed → Verdict h number listed

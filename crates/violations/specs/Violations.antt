@@ -11,12 +11,12 @@ pub record Is (h : History) (kind o : ℕ) : Type 0 where
   pub known : o < h .count
   pub kinds : h .kind o ≡ kind
 
--- r is a remove of the value of add a
+-- r is a remove of the value of a (that a is an add is said apart)
 pub record RemoveOf (h : History) (a r : ℕ) : Type 0 where
   pub removes : Is h remove r
   pub same : h .value r ≡ h .value a
 
--- the value of add a is removed
+-- the value of a is removed
 abbrev pub Removed : History → ℕ → Type 0
 Removed h a = (r : ℕ) × RemoveOf h a r
 
@@ -32,13 +32,13 @@ pub record Twice (h : History) (r s : ℕ) : Type 0 where
   pub lower : r < s
   pub same : h .value r ≡ h .value s
 
--- 3. "Early: a remove that precedes the add of its value. Lists remove, add."
+-- 3. "Early: a remove that precedes the add of its value. Lists remove, add." The add may be open.
 pub record Early (h : History) (r a : ℕ) : Type 0 where
   pub adds : Is h add a
   pub removes : RemoveOf h a r
   pub before : Precedes h r a
 
--- 4. "Stuck: add a precedes add b, b is removed, a never is. Lists add a, add b, remove b."
+-- 4. "Stuck: add a precedes add b, b is removed, a never is. Lists add a, add b, remove b." Add b may be open.
 pub record Stuck (h : History) (a b r : ℕ) : Type 0 where
   pub first : Is h add a
   pub second : Is h add b
@@ -46,13 +46,14 @@ pub record Stuck (h : History) (a b r : ℕ) : Type 0 where
   pub removes : RemoveOf h b r
   pub never : Removed h a → ⊥
 
--- 5. "Overtaken: add a precedes add b, and remove b precedes remove a. Lists add a, add b, remove b, remove a."
+-- 5. "Overtaken: add a precedes add b, and remove b precedes remove a. Lists add a, add b, remove b, remove a." Add b may be
+-- open.
 pub record Overtaken (h : History) (a b r s : ℕ) : Type 0 where
   pub first : Is h add a
   pub second : Is h add b
-  pub ahead : Precedes h a b
+  pub added-before : Precedes h a b
   pub removes : RemoveOf h b r
-  pub removes-first : RemoveOf h a s
+  pub removes-late : RemoveOf h a s
   pub overtakes : Precedes h r s
 
 -- 6. "A gap lies between two neighbouring records; the remove's gaps run from its call to its return." Gap g lies just
@@ -62,12 +63,13 @@ pub record Gap (h : History) (e g : ℕ) : Type 0 where
   pub until : g < h .ret e
 
 -- "A value covers the gaps from its add's return to its remove's call, or to the end if it is never removed": where the
--- value of add a stops to cover. (A value that is removed twice stops at either call; then pattern 2 occurs, and 6 is not
+-- value of add a stops covering. (A value that is removed twice stops at either call; then pattern 2 occurs, and 6 is not
 -- reported.)
 pub data Reaches (h : History) (a reach : ℕ) : Type 0 where
   removed : (r : ℕ) → RemoveOf h a r → h .call r ≡ reach → Reaches h a reach
   never : (Removed h a → ⊥) → h .end ≡ reach → Reaches h a reach
 
+-- the value of add a, which stops covering at `reach`, covers gap g (an open add returns at the end, so its value covers no gap)
 pub record Covers (h : History) (a reach g : ℕ) : Type 0 where
   pub adds : Is h add a
   pub reaches : Reaches h a reach
