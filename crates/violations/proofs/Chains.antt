@@ -1,4 +1,4 @@
--- How far values cover, and the chains of pattern 6. What there is is found by bounded searches, in a form that computes.
+-- How far values cover, and the chains of pattern 6, found by bounded searches in a form that computes.
 use Prim.Native.Nat.{ℕ, zero, suc, _+_, _≤_, _<_}
 use native.Mathlib.Omega.{arith}
 use native.Mathlib.Decide.{decLe, decLt}
@@ -18,7 +18,7 @@ pub record Reach (h : History) (a : ℕ) : Type 0 where
   pub reaches : Reaches h a to
   pub furthest : (far : ℕ) → Reaches h a far → far ≤ to
 
--- there is one for each add
+-- there is one for each operation; it means something for adds
 pub reach-of : (h : History) (a : ℕ) → Reach h a
 unfolding best greater remove-of?
 reach-of h a = go (best (RemoveOf h a) (λ r s. h .call s ≤ h .call r) (greater (h .call)) (remove-of? h a) (h .count))

@@ -7,7 +7,7 @@ use mathlib.Core.Logic.{_↔_, Iff·symm}
 use mathlib.Core.List.{List, [], _∷_}
 use Rattle.history.specs.History.{History, add, remove, Precedes}
 use Rattle.history.specs.Each.{Each}
-use Rattle.violations.specs.Violations.{Is, RemoveOf, Removed, Unknown, Twice, Early, Stuck, Overtaken, never, Occurs, unknown, twice, early, stuck, overtaken, falseEmpty}
+use Rattle.violations.specs.Violations.{Is, RemoveOf, Removed, Unknown, Twice, Early, Stuck, Overtaken, Occurs, unknown, twice, early, stuck, overtaken, falseEmpty}
 use Rattle.violations.specs.Parts.{HasValue, KeptAs, Part, Kept}
 use Rattle.violations.proofs.Occurrences.{occurs-known}
 use Rattle.violations.proofs.Operations.{is-valued}
@@ -21,10 +21,10 @@ pub record Correspondence (h k : History) (Same : ℕ → ℕ → Type 0) : Type
   pub kind : {o q : ℕ} → Same o q → h .kind o ≡ k .kind q
   pub precedes : {o o' q q' : ℕ} → Same o q → Same o' q' → Precedes h o o' → Precedes k q q'
   pub value : {o o' q q' : ℕ} → Same o q → Same o' q' → HasValue k q → HasValue k q' → (h .value o ≡ h .value o') ↔ (k .value q ≡ k .value q')
-  -- an operation with the value of a matched one is matched
+  -- an operation of k with the value of one that is an operation of h is one of h too
   pub whole : {o q : ℕ} → Same o q → HasValue k q → (q' : ℕ) → HasValue k q' → k .value q' ≡ k .value q → (o' : ℕ) × Same o' q'
 
--- The operations of a history are matched with those of its part that they are kept as.
+-- An operation of a history is the one of its part that it is kept as.
 pub part-down : {h part : History} (p : Part h part) → Correspondence h part (KeptAs part (p .to))
 part-down p = record {
   known = λ {o} {q} s. (rw (← (s .is)) (p .known q (s .known)), s .known);
@@ -35,7 +35,7 @@ part-down p = record {
   whole = λ s x q' y e. (p .to q', record { known = y .known; is = refl });
 }
 
--- The operations of a part are matched with those of the history that they are.
+-- An operation of a part is one of the history.
 pub part-up : {h part : History} (p : Part h part) → Correspondence part h (λ q o. KeptAs part (p .to) o q)
 part-up {h} {part} p = record {
   known = λ s. (s .known, part-down p .known s .0);
@@ -49,14 +49,14 @@ part-up {h} {part} p = record {
     has : {o q : ℕ} → KeptAs part (p .to) o q → HasValue h o → HasValue part q
     has s x = record { known = s .known; valued = λ e. x .valued (part-down p .kind s ∙ e) }
 
--- Matched operations are of the same kind.
+-- Corresponding operations are of the same kind.
 pub corresponding-is : {h k : History} {Same : ℕ → ℕ → Type 0} → Correspondence h k Same → {kind o q : ℕ} → Same o q → Is h kind o ↔ Is k kind q
 corresponding-is m s = (
   λ i. record { known = m .known s .1; kinds = sym (m .kind s) ∙ i .kinds },
   λ i. record { known = m .known s .0; kinds = m .kind s ∙ i .kinds },
 )
 
--- Whether a remove is one of an add's value is the same for matched operations.
+-- Whether a remove is one of an add's value is the same for corresponding operations.
 pub corresponding-removes : {h k : History} {Same : ℕ → ℕ → Type 0} → Correspondence h k Same → {a b r s : ℕ} → Same a b → Same r s → Is k add b → RemoveOf h a r ↔ RemoveOf k b s
 corresponding-removes {h} {k} m {a} {b} {r} {s} same-add same-remove added = (
   λ x. let there = corresponding-is m same-remove .0 (x .removes) in record { removes = there; same = equal there .0 (x .same) },
@@ -66,13 +66,13 @@ corresponding-removes {h} {k} m {a} {b} {r} {s} same-add same-remove added = (
     equal : Is k remove s → (h .value r ≡ h .value a) ↔ (k .value s ≡ k .value b)
     equal there = m .value same-remove same-add (is-valued there (omega arith)) (is-valued added (omega arith))
 
--- If the value of an add is removed in k, then that of the matched add is removed in h.
+-- If the value of an add is removed in k, then that of the corresponding add is removed in h.
 pub corresponding-removed : {h k : History} {Same : ℕ → ℕ → Type 0} → Correspondence h k Same → {a b : ℕ} → Same a b → Is k add b → Removed k b → Removed h a
 corresponding-removed m same-add added (s, x) =
     let found = m .whole same-add (is-valued added (omega arith)) s (is-valued (x .removes) (omega arith)) (x .same) in
     (found .0, corresponding-removes m same-add (found .1) added .1 x)
 
--- Pattern 1 is matched: an add of k that names the value of the remove is matched with one of h that does.
+-- Pattern 1 goes over: an add of k that names the value of the remove corresponds to one of h that does.
 corresponding-unknown : {h k : History} {Same : ℕ → ℕ → Type 0} → Correspondence h k Same → {r s : ℕ} → Same r s → Unknown h r → Unknown k s
 corresponding-unknown {k} m {s} same-remove u = record {
   removes = there;
@@ -84,7 +84,7 @@ corresponding-unknown {k} m {s} same-remove u = record {
     there : Is k remove s
     there = corresponding-is m same-remove .0 (u .removes)
 
--- Pattern 2 is matched. The two removes may trade places, since nothing is known of the order of the numbers.
+-- Pattern 2 goes over. The two removes may trade places, since nothing is known of the order of the numbers.
 corresponding-twice : {h k : History} {Same : ℕ → ℕ → Type 0} → Correspondence h k Same → {r s q t : ℕ} → Same r q → Same s t → Twice h r s → (listed : List ℕ) × Occurs k 2 listed × Each (λ q. (o : ℕ) × Same o q) listed
 corresponding-twice {k} {Same} m {r} {s} {q} {t} first second x = go (decLt q t) (decLt t q)
   where
@@ -102,13 +102,13 @@ corresponding-twice {k} {Same} m {r} {s} {q} {t} first second x = go (decLt q t)
     go (no n) (yes l) = (t ∷ q ∷ [], twice (record { first = is-second; second = is-first; lower = l; same = sym equal }), ((s, second), ((r, first), tt)))
     go (no n) (no n') = let e : q ≡ t = omega arith in let same : r ≡ s = m .one (rw e at first) second in absurd (omega (arith, x .lower))
 
--- Pattern 3 is matched, part by part.
+-- Pattern 3 goes over, field by field.
 corresponding-early : {h k : History} {Same : ℕ → ℕ → Type 0} → Correspondence h k Same → {r a q b : ℕ} → Same r q → Same a b → Early h r a → Early k q b
 corresponding-early m same-remove same-add x =
     let added = corresponding-is m same-add .0 (x .adds) in
     record { adds = added; removes = corresponding-removes m same-add same-remove added .0 (x .removes); before = m .precedes same-remove same-add (x .before) }
 
--- Pattern 4 is matched: the first add is not removed in k, since it is not in h.
+-- Pattern 4 goes over: the first add is not removed in k, since it is not in h.
 corresponding-stuck : {h k : History} {Same : ℕ → ℕ → Type 0} → Correspondence h k Same → {a b r a' b' r' : ℕ} → Same a a' → Same b b' → Same r r' → Stuck h a b r → Stuck k a' b' r'
 corresponding-stuck m same-first same-second same-remove x =
     let first = corresponding-is m same-first .0 (x .first) in
@@ -121,7 +121,7 @@ corresponding-stuck m same-first same-second same-remove x =
       never = λ there. x .never (corresponding-removed m same-first first there);
     }
 
--- Pattern 5 is matched, part by part.
+-- Pattern 5 goes over, field by field.
 corresponding-overtaken : {h k : History} {Same : ℕ → ℕ → Type 0} → Correspondence h k Same → {a b r s a' b' r' s' : ℕ} → Same a a' → Same b b' → Same r r' → Same s s'
     → Overtaken h a b r s → Overtaken k a' b' r' s'
 corresponding-overtaken m same-first same-second same-remove same-late x =
@@ -136,7 +136,8 @@ corresponding-overtaken m same-first same-second same-remove same-late x =
       overtakes = m .precedes same-remove same-late (x .overtakes);
     }
 
--- Patterns 1 to 5 of h occur in k if all that they list is matched, and then all that they list there is matched too.
+-- Patterns 1 to 5 of h occur in k if all that they list corresponds to operations of k; all that they list there then
+-- corresponds to operations of h.
 corresponding-occurs : {h k : History} {Same : ℕ → ℕ → Type 0} → Correspondence h k Same → {n : ℕ} {listed : List ℕ} → n < 6 → Occurs h n listed
     → Each (λ o. (q : ℕ) × Same o q) listed → (listed' : List ℕ) × Occurs k n listed' × Each (λ q. (o : ℕ) × Same o q) listed'
 corresponding-occurs m small (unknown {r = r} x) ((q, s), rest) = (q ∷ [], unknown (corresponding-unknown m s x), ((r, s), tt))

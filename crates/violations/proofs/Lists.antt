@@ -1,4 +1,4 @@
--- Laws of lists of operations that grow at the back.
+-- Laws of lists of operations: what stands in them, also when they grow at the back or at the front.
 use Prim.Native.Nat.{ℕ, zero, suc, _+_, _<_}
 use native.Mathlib.Omega.{arith}
 use native.Mathlib.Decide.{decLt}
