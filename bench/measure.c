@@ -1,7 +1,7 @@
 /*
  * Calls one entry on one log, for bench/instructions to count. The arguments name the entry and the
  * log. Prints the log's records, operations and bytes, and how many operations the order lists that
- * replay is handed.
+ * replay is handed, and those that the judge lists. Replay is not called on a log with a pattern.
  */
 
 #include <stdio.h>
@@ -11,16 +11,24 @@
 #include "sheets.h"
 #include "yauponroof.h"
 
-/* A log of the measurement with a legal order, and the number of its operations. */
+/* A log of the measurement with a legal order, the number of its operations, and the judge's verdict
+   with the number of operations listed. With a pattern there is no legal order. */
 struct sample {
     const char *name;
     unsigned operations;
+    unsigned verdict;
+    unsigned judged;
     void (*make)(struct log *, struct sheet *);
 };
 
 static void eight_clients(struct log *log, struct sheet *order)
 {
     log_simulate(log, order, CLIENTS_REUSED);
+}
+
+static void sixty_four_clients(struct log *log, struct sheet *order)
+{
+    log_simulate_by(log, order, CLIENTS_REUSED, MOST_WORKERS);
 }
 
 static void client_per_operation(struct log *log, struct sheet *order)
@@ -40,6 +48,56 @@ static void pending_adds_listed(struct log *log, struct sheet *order)
     sheet_call_order(order, YR_MAX_RECORDS);
 }
 
+static void empty_removes(struct log *log, struct sheet *order)
+{
+    log_relay(log, order, 85, 340, LAST_TRUE);
+}
+
+static void empty_removes_false(struct log *log, struct sheet *order)
+{
+    log_relay(log, order, 85, 340, LAST_FALSE);
+}
+
+static void long_chain(struct log *log, struct sheet *order)
+{
+    log_relay(log, order, 170, 170, LAST_TRUE);
+}
+
+static void long_chain_false(struct log *log, struct sheet *order)
+{
+    log_relay(log, order, 170, 170, LAST_FALSE);
+}
+
+static void late_1(struct log *log, struct sheet *order)
+{
+    log_late_pattern(log, order, 1);
+}
+
+static void late_2(struct log *log, struct sheet *order)
+{
+    log_late_pattern(log, order, 2);
+}
+
+static void late_3(struct log *log, struct sheet *order)
+{
+    log_late_pattern(log, order, 3);
+}
+
+static void late_4(struct log *log, struct sheet *order)
+{
+    log_late_pattern(log, order, 4);
+}
+
+static void late_5(struct log *log, struct sheet *order)
+{
+    log_late_pattern(log, order, 5);
+}
+
+static void late_6(struct log *log, struct sheet *order)
+{
+    log_late_pattern(log, order, 6);
+}
+
 static void empty(struct log *log, struct sheet *order)
 {
     log_begin(log);
@@ -47,21 +105,34 @@ static void empty(struct log *log, struct sheet *order)
 }
 
 static const struct sample samples[] = {
-    {"8-clients", 512, eight_clients},
-    {"client-per-operation", 512, client_per_operation},
-    {"calls-then-returns", 512, log_calls_then_returns},
-    {"calls-apart", 512, log_calls_then_returns_apart},
-    {"pending-adds", 1024, pending_adds},
-    {"pending-adds-listed", 1024, pending_adds_listed},
-    {"empty", 0, empty},
+    {"8-clients", 512, 0, 512, eight_clients},
+    {"64-clients", 512, 0, 512, sixty_four_clients},
+    {"client-per-operation", 512, 0, 512, client_per_operation},
+    {"calls-then-returns", 512, 0, 512, log_calls_then_returns},
+    {"calls-apart", 512, 0, 512, log_calls_then_returns_apart},
+    {"pending-adds", 1024, 0, 0, pending_adds},
+    {"pending-adds-listed", 1024, 0, 0, pending_adds_listed},
+    {"empty-removes", 510, 0, 510, empty_removes},
+    {"empty-removes-false", 510, 6, 86, empty_removes_false},
+    {"long-chain", 510, 0, 510, long_chain},
+    {"long-chain-false", 510, 6, 171, long_chain_false},
+    {"late-1", 512, 1, 1, late_1},
+    {"late-2", 512, 2, 2, late_2},
+    {"late-3", 512, 3, 2, late_3},
+    {"late-4", 512, 4, 3, late_4},
+    {"late-5", 512, 5, 4, late_5},
+    {"late-6", 512, 6, 2, late_6},
+    {"empty", 0, 0, 0, empty},
 };
 
 static yr_answer answer;
+static uint8_t judged[YR_SHEET_MAX];
 
 /* The calls that are counted, with all they call. Storing the answer keeps them from being jumps. */
 __attribute__((noinline, noclone)) void measured_check(const struct log *log);
 __attribute__((noinline, noclone)) void measured_replay(const struct log *log,
                                                         const struct sheet *order);
+__attribute__((noinline, noclone)) void measured_judge(const struct log *log);
 
 void measured_check(const struct log *log)
 {
@@ -73,6 +144,11 @@ void measured_replay(const struct log *log, const struct sheet *order)
     answer = yr_replay(log->bytes, log->length, order->bytes, order->length);
 }
 
+void measured_judge(const struct log *log)
+{
+    answer = yr_judge(log->bytes, log->length, judged, sizeof judged);
+}
+
 /* Calls the entry of that name; whether there is one and it answers as it has to. */
 static int call(const char *entry, const struct sample *sample, const struct log *log,
                 const struct sheet *order)
@@ -81,9 +157,14 @@ static int call(const char *entry, const struct sample *sample, const struct log
         measured_check(log);
         return answer == sample->operations;
     }
-    if (strcmp(entry, "replay") == 0) {
+    if (strcmp(entry, "replay") == 0 && sample->verdict == 0) {
         measured_replay(log, order);
         return answer == 1;
+    }
+    if (strcmp(entry, "judge") == 0) {
+        measured_judge(log);
+        return answer == SHEET_HEADER + 2 * sample->judged &&
+               sheet_verdict(judged) == sample->verdict;
     }
     return 0;
 }
@@ -98,8 +179,12 @@ static int measure(const char *entry, const struct sample *sample)
                 (unsigned long)YR_REFUSED(answer), (unsigned long)YR_VALUE(answer));
         return 1;
     }
-    printf("%u %u %lu %lu\n", log.records, sample->operations, (unsigned long)log.length,
-           (unsigned long)(order.length - SHEET_HEADER) / 2);
+    printf("%u %u %lu ", log.records, sample->operations, (unsigned long)log.length);
+    if (sample->verdict == 0)
+        printf("%lu ", (unsigned long)(order.length - SHEET_HEADER) / 2);
+    else
+        printf("- ");
+    printf("%u %u\n", sample->verdict, sample->judged);
     return 0;
 }
 

@@ -1,11 +1,13 @@
 /*
- * yauponroof.h - a judge for logs of queue operations, version 0.2.0
+ * yauponroof.h - a judge for logs of queue operations, version 0.3.0
  *
  * A log tells the calls and the returns of operations on one queue, made by any number of clients.
- * This version reads a log and replays an order of its operations. yr_check says whether the log is
- * readable and how many operations it has, or which record is at fault and why. yr_replay says
- * whether the order on a sheet is legal for the log: whether one queue that did the operations in
- * that order, each between its call and its return, would have answered as the log tells.
+ * yr_check says whether the log is readable and how many operations it has, or which record is at
+ * fault and why. yr_judge writes a sheet that tells the verdict on the log with its grounds: a legal
+ * order of the operations, in which one queue that did them, each between its call and its return,
+ * would have answered as the log tells; or a numbered pattern that rules every order out. yr_replay
+ * says whether the order on a sheet is legal for a log, whoever made it. yr_excerpt writes the part
+ * of a log that shows its pattern, and yr_narrow the part that is about some values.
  *
  * Link with libyauponroof.a (Linux on x86-64), which needs memset of the C library and nothing else.
  * What the functions declared here answer is proved. This header is not: it is held against the
@@ -35,7 +37,8 @@
  * A sheet tells the verdict on a log. Its fields are big-endian and unsigned as well. Byte 0 is the
  * version, 1. Byte 1 is the verdict: 0 for an order, or else the number of a pattern that rules
  * every order out. Bytes 2 and 3 are k. Then come k operation numbers of 2 bytes each with nothing
- * behind them, so that a sheet has 4 + 2k bytes. With verdict 0 they are the order, first to last.
+ * behind them, so that a sheet has 4 + 2k bytes. With verdict 0 they are the order, first to last;
+ * with a pattern they are the operations that it lists.
  *
  * Legal orders
  * ------------
@@ -48,6 +51,32 @@
  * - done in that order on a queue that is empty at the start, each add puts its value at the back,
  *   each remove that returned a value takes that value from the front, and each remove that
  *   returned empty meets an empty queue.
+ *
+ * The patterns
+ * ------------
+ * A readable log has a legal order exactly if none of these occurs. "Precedes" is meant as above.
+ *
+ *     1  unknown      a remove returned a value that no add of the log names, returned or not;
+ *                     lists the remove
+ *     2  twice        two removes returned one value; lists both, lower number first
+ *     3  early        a remove that returned a value precedes the add of that value; lists the
+ *                     remove, the add
+ *     4  stuck        add a precedes add b, the value of b was removed and that of a never was;
+ *                     lists add a, add b, the remove of b
+ *     5  overtaken    add a precedes add b, and the remove of b precedes the remove of a; lists
+ *                     add a, add b, the remove of b, the remove of a
+ *     6  false empty  every gap of a remove that returned empty is covered; lists the remove, then
+ *                     the adds of a chain
+ *
+ * A gap lies between two neighbouring records. Those of a remove run from its call to its return. A
+ * value covers the gaps from the return of its add to the call of its remove, or to the end of the
+ * log if it was never removed; the value of an add without return covers none. The chain begins with
+ * the value that reaches furthest of those that cover the first gap, and goes on in the same way at
+ * the first gap beyond it, until all gaps of the remove are covered. A value that was never removed
+ * reaches furthest, and among several of these the lowest add is taken.
+ *
+ * The lowest number that occurs is told. If it occurs more than once, the lowest list is told,
+ * compared left to right.
  *
  * Rules for every function
  * ------------------------
@@ -69,21 +98,24 @@
 extern "C" {
 #endif
 
-#define YR_VERSION "0.2.0"
+#define YR_VERSION "0.3.0"
 #define YR_VERSION_MAJOR 0
-#define YR_VERSION_MINOR 2
+#define YR_VERSION_MINOR 3
 #define YR_VERSION_PATCH 0
 
 /* The most records that a log may have. */
 #define YR_MAX_RECORDS 1024
 
-/* The most bytes of a readable log: 3, and 12 for each of 1,024 calls of add. */
+/*
+ * The most bytes of a readable log: 3, and 12 for each of 1,024 calls of add. An excerpt or a
+ * narrowing never has more bytes than its log.
+ */
 #define YR_LOG_MAX 12291
 
 /*
- * The most bytes of a verdict sheet: 4, and 2 for each of 682 operations. A legal order is
- * longer only if it lists adds without return whose values were never removed; yr_replay takes that
- * as well.
+ * The most bytes of a sheet that yr_judge writes: 4, and 2 for each of 682 operations. A legal order
+ * is longer only if it lists adds without return whose values were never removed; yr_replay takes
+ * that as well.
  */
 #define YR_SHEET_MAX 1368
 
@@ -102,7 +134,8 @@ typedef uint64_t yr_answer;
 
 /*
  * All refusals. Those from 1 to 11 concern what was handed in, those from 20 on how things stand.
- * A refused call writes nothing. yr_check gives 1 to 10 only, and yr_replay 1 to 11.
+ * A refused call writes nothing. All functions give 1 to 10; besides yr_replay gives 11, yr_judge
+ * and yr_narrow 24, and yr_excerpt 23 and 24. The others belong to sessions, which are not here yet.
  */
 enum yr_refusal {
     YR_REFUSAL_BYTES = 1,            /* fewer than 3 bytes; the bytes end before or inside a record;
@@ -188,6 +221,90 @@ yr_answer yr_check(const uint8_t *log, size_t log_len);
  * Nothing is written. Less than 64 KiB of stack is used (37.2 KB measured).
  */
 yr_answer yr_replay(const uint8_t *log, size_t log_len, const uint8_t *sheet, size_t sheet_len);
+
+/*
+ * Judges a log and writes the sheet of its verdict.
+ *
+ * In:   log        the log_len bytes of the log; never NULL, not even if log_len is 0
+ *       log_len    any length; above YR_LOG_MAX no log is readable
+ *       sheet      sheet_len bytes to write to, apart from the log; never NULL, not even if
+ *                  sheet_len is 0; what they hold before does not matter
+ *       sheet_len  any length; YR_SHEET_MAX is always enough
+ * Out:  accepted, with the number of bytes written, which is 4 + 2k, at most YR_SHEET_MAX; otherwise
+ *       one of the refusals below.
+ *
+ * If some order is legal for the log, the verdict is 0 and the sheet lists a legal order, to which
+ * yr_replay says yes. It has every operation that returned, and an add without return exactly if its
+ * value was removed. Where several such orders are legal, any of them may be listed. Otherwise the
+ * verdict is the number of the pattern that is told, 1 to 6, and the sheet lists its operations.
+ *
+ * The first test that fails decides, in this order:
+ *
+ *     1 to 10  the log is not readable: the refusal and the index that yr_check gives, whatever the
+ *              sheet is
+ *     24       sheet_len is below 4 + 2k (index 0)
+ *
+ * An accepted call writes the first 4 + 2k bytes of the sheet and leaves those behind them as they
+ * were; a refused one leaves all as they were. The log is never written to. Less than 64 KiB of
+ * stack is used.
+ */
+yr_answer yr_judge(const uint8_t *log, size_t log_len, uint8_t *sheet, size_t sheet_len);
+
+/*
+ * Makes the excerpt of a log that has a pattern: the log of all records of all operations on the
+ * values of the operations that the pattern lists and, with pattern 6, of the remove that it lists.
+ * No other remove that returned empty is kept. The records stand in their order, with clients, ticks
+ * and values as they were. An excerpt is a readable log, and its verdict has the same number.
+ *
+ * In:   log      the log_len bytes of the log; never NULL, not even if log_len is 0
+ *       log_len  any length; above YR_LOG_MAX no log is readable
+ *       out      out_len bytes to write to, apart from the log; never NULL, not even if out_len is
+ *                0; what they hold before does not matter
+ *       out_len  any length; log_len is always enough, and so is YR_LOG_MAX
+ * Out:  accepted, with the number of bytes written, which are those of the excerpt; otherwise one of
+ *       the refusals below.
+ *
+ * The first test that fails decides, in this order:
+ *
+ *     1 to 10  the log is not readable: the refusal and the index that yr_check gives, whatever
+ *              out_len is
+ *     23       the verdict on the log is an order, whatever out_len is (index 0)
+ *     24       out_len is below the length of the excerpt (index 0)
+ *
+ * An accepted call writes the bytes of the excerpt and leaves those behind them as they were; a
+ * refused one leaves all as they were. The log is never written to. Less than 64 KiB of stack is
+ * used.
+ */
+yr_answer yr_excerpt(const uint8_t *log, size_t log_len, uint8_t *out, size_t out_len);
+
+/*
+ * Narrows a log to a list of values: writes the log of all records of operations on these values
+ * and of no others. An add is on the value that it names, returned or not, and a remove on the value
+ * that it returned; a remove that returned empty is on none and is never kept. The records stand in
+ * their order, with clients, ticks and values as they were, so that what is written is a readable
+ * log.
+ *
+ * In:   log      the log_len bytes of the log; never NULL, not even if log_len is 0
+ *       log_len  any length; above YR_LOG_MAX no log is readable
+ *       values   count values, as numbers; never NULL, not even if count is 0. Values that the log
+ *                lacks, repeats and the order of the list change nothing
+ *       count    any number; with 0 the log of no records is written, which has 3 bytes
+ *       out      out_len bytes to write to, apart from the log and the values; never NULL, not even
+ *                if out_len is 0; what they hold before does not matter
+ *       out_len  any length; log_len is always enough, and so is YR_LOG_MAX
+ * Out:  accepted, with the number of bytes written; otherwise one of the refusals below.
+ *
+ * The first test that fails decides, in this order:
+ *
+ *     1 to 10  the log is not readable: the refusal and the index that yr_check gives, whatever
+ *              out_len is
+ *     24       out_len is below the number of bytes to write (index 0)
+ *
+ * An accepted call writes its bytes and leaves those behind them as they were; a refused one leaves
+ * all as they were. The log and the values are never written to. Less than 64 KiB of stack is used.
+ */
+yr_answer yr_narrow(const uint8_t *log, size_t log_len, const uint32_t *values, size_t count,
+                    uint8_t *out, size_t out_len);
 
 #ifdef __cplusplus
 }

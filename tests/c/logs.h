@@ -1,6 +1,7 @@
 /*
  * Logs for the C tests and the measurements. A log is written record by record into a struct log;
- * the ticks rise by one. Beside the logs of a correct queue stands an order that is legal for them.
+ * the ticks rise by one. Beside the logs of a correct queue stands an order that is legal for them;
+ * beside those with a pattern stands the sheet of no operations.
  */
 
 #ifndef LOGS_H
@@ -104,7 +105,9 @@ static inline void log_calls_then_returns_apart(struct log *log, struct sheet *o
    each operation. */
 enum clients { CLIENTS_REUSED, CLIENTS_APART, CLIENT_PER_OPERATION };
 
+/* How many clients are at work at once in a run, and at most. */
 #define WORKERS 8
+#define MOST_WORKERS 64
 
 /* A client; while it is at work, its operation and the record that returns it. */
 struct worker {
@@ -166,27 +169,169 @@ static inline void simulation_return(struct simulation *run, struct worker *work
     worker->at_work = 0;
 }
 
-/* 1,024 records of a correct queue with 8 clients at work; every operation returns. The order is
-   that in which the operations take effect. */
-static inline void log_simulate(struct log *log, struct sheet *order, enum clients clients)
+/* Lets `count` clients make so many records, an even number; every operation returns. */
+static inline void simulation_run(struct simulation *run, enum clients clients, unsigned count,
+                                  unsigned records)
 {
-    struct simulation run = {log, order, 1, 0, 0, {0}, 0, 0};
-    struct worker workers[WORKERS];
+    struct worker workers[MOST_WORKERS];
     memset(workers, 0, sizeof workers);
-    for (unsigned i = 0; i < WORKERS; i++)
+    for (unsigned i = 0; i < count; i++)
         workers[i].client = clients == CLIENTS_APART ? i * 1024 : i;
-    log_begin(log);
-    sheet_begin(order);
-    while (log->records < YR_MAX_RECORDS) {
-        struct worker *worker = &workers[simulation_random(&run, WORKERS)];
+    log_begin(run->log);
+    sheet_begin(run->order);
+    while (run->log->records < records) {
+        struct worker *worker = &workers[simulation_random(run, count)];
         if (worker->at_work) {
-            simulation_return(&run, worker);
-        } else if (run.calls < YR_MAX_RECORDS / 2) {
+            simulation_return(run, worker);
+        } else if (run->calls < records / 2) {
             if (clients == CLIENT_PER_OPERATION)
-                worker->client = run.calls;
-            simulation_call(&run, worker);
+                worker->client = run->calls;
+            simulation_call(run, worker);
         }
     }
+}
+
+/* 1,024 records of a correct queue with so many clients at work. The order is that in which the
+   operations take effect. */
+static inline void log_simulate_by(struct log *log, struct sheet *order, enum clients clients,
+                                   unsigned count)
+{
+    struct simulation run = {log, order, 1, 0, 0, {0}, 0, 0};
+    simulation_run(&run, clients, count, YR_MAX_RECORDS);
+}
+
+/* The same with 8 clients at work. */
+static inline void log_simulate(struct log *log, struct sheet *order, enum clients clients)
+{
+    log_simulate_by(log, order, clients, WORKERS);
+}
+
+/* A run of 8 clients, removes that empty the queue, and then adds and removes of one value each,
+   until `free` records of 1,024 are left, an even number. The values are below 1,024, and the
+   clients below 8. */
+static inline void log_simulate_emptied(struct log *log, struct sheet *order, unsigned free)
+{
+    struct simulation run = {log, order, 1, 0, 0, {0}, 0, 0};
+    simulation_run(&run, CLIENTS_REUSED, WORKERS, YR_MAX_RECORDS - 200);
+    while (run.front < run.back) {
+        log_record(log, CALL_REMOVE, 0, 0);
+        log_record(log, RETURN_VALUE, 0, run.queue[run.front++]);
+        sheet_list(order, run.calls++);
+    }
+    while (log->records + free + 4 <= YR_MAX_RECORDS) {
+        log_record(log, CALL_ADD, 0, run.adds);
+        log_record(log, RETURN_ADD, 0, 0);
+        log_record(log, CALL_REMOVE, 0, 0);
+        log_record(log, RETURN_VALUE, 0, run.adds++);
+        sheet_list(order, run.calls++);
+        sheet_list(order, run.calls++);
+    }
+    if (log->records + free < YR_MAX_RECORDS) {
+        log_record(log, CALL_REMOVE, 0, 0);
+        log_record(log, RETURN_EMPTY, 0, 0);
+        sheet_list(order, run.calls);
+    }
+}
+
+/* A whole operation of client 8: its call and its return. */
+static inline void log_add(struct log *log, uint32_t value)
+{
+    log_record(log, CALL_ADD, WORKERS, value);
+    log_record(log, RETURN_ADD, WORKERS, 0);
+}
+
+static inline void log_remove(struct log *log, uint32_t value)
+{
+    log_record(log, CALL_REMOVE, WORKERS, 0);
+    log_record(log, RETURN_VALUE, WORKERS, value);
+}
+
+static inline void log_remove_empty(struct log *log)
+{
+    log_record(log, CALL_REMOVE, WORKERS, 0);
+    log_record(log, RETURN_EMPTY, WORKERS, 0);
+}
+
+/* The records of one occurrence of a pattern, 1 to 6, on values from 1,024 on. */
+static inline void log_occurrence(struct log *log, unsigned pattern)
+{
+    const uint32_t a = 1024, b = 1025;
+    switch (pattern) {
+    case 1:
+        log_remove(log, a);
+        break;
+    case 2:
+        log_add(log, a);
+        log_remove(log, a);
+        log_remove(log, a);
+        break;
+    case 3:
+        log_remove(log, a);
+        log_add(log, a);
+        break;
+    case 4:
+        log_add(log, a);
+        log_add(log, b);
+        log_remove(log, b);
+        break;
+    case 5:
+        log_add(log, a);
+        log_add(log, b);
+        log_remove(log, b);
+        log_remove(log, a);
+        break;
+    default:
+        log_add(log, a);
+        log_remove_empty(log);
+    }
+}
+
+/* 1,024 records that are sound but for a pattern at their very end, which occurs only there. */
+static inline void log_late_pattern(struct log *log, struct sheet *order, unsigned pattern)
+{
+    static const unsigned records[] = {0, 2, 6, 4, 6, 8, 4};
+    log_simulate_emptied(log, order, records[pattern]);
+    log_occurrence(log, pattern);
+    sheet_begin(order);
+}
+
+/* What the last of the empty removes of a relay is. */
+enum last_empty { LAST_TRUE, LAST_FALSE };
+
+/* A relay: each of the values is added before the one before it is removed, so that all together
+   cover the gaps from the return of the first add to the call of the last remove. So many empty
+   removes are called behind the first add. They return behind the call of the last remove; but if
+   the last of them is false, it returns right before that. */
+static inline void log_relay(struct log *log, struct sheet *order, unsigned values,
+                             unsigned empties, enum last_empty last)
+{
+    unsigned true_ones = last == LAST_FALSE ? empties - 1 : empties;
+    log_begin(log);
+    log_record(log, CALL_ADD, 0, 0);
+    log_record(log, RETURN_ADD, 0, 0);
+    for (unsigned i = 0; i < empties; i++)
+        log_record(log, CALL_REMOVE, 2 + i, 0);
+    for (unsigned value = 1; value < values; value++) {
+        log_record(log, CALL_ADD, 0, value);
+        log_record(log, RETURN_ADD, 0, 0);
+        log_record(log, CALL_REMOVE, 1, 0);
+        log_record(log, RETURN_VALUE, 1, value - 1);
+    }
+    if (last == LAST_FALSE)
+        log_record(log, RETURN_EMPTY, 2 + true_ones, 0);
+    log_record(log, CALL_REMOVE, 1, 0);
+    for (unsigned i = 0; i < true_ones; i++)
+        log_record(log, RETURN_EMPTY, 2 + i, 0);
+    log_record(log, RETURN_VALUE, 1, values - 1);
+
+    sheet_begin(order);
+    if (last == LAST_FALSE)
+        return;
+    sheet_list(order, 0);
+    for (unsigned i = 0; i < 2 * values - 1; i++)
+        sheet_list(order, 1 + empties + i);
+    for (unsigned i = 0; i < empties; i++)
+        sheet_list(order, 1 + i);
 }
 
 #endif /* LOGS_H */

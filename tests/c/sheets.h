@@ -1,6 +1,6 @@
 /*
- * Sheets of orders for the C tests and the measurements. A sheet is written operation by operation
- * into a struct sheet.
+ * Sheets for the C tests and the measurements. The sheet of an order is written operation by
+ * operation into a struct sheet; from any sheet the verdict and the operations can be read.
  */
 
 #ifndef SHEETS_H
@@ -35,6 +35,24 @@ static inline void sheet_list(struct sheet *sheet, unsigned operation)
     size_t k = (sheet->length - SHEET_HEADER) / 2;
     sheet->bytes[2] = (uint8_t)(k >> 8);
     sheet->bytes[3] = (uint8_t)k;
+}
+
+/* The number in the two bytes from there on. */
+static inline unsigned sheet_u16(const uint8_t *bytes)
+{
+    return (unsigned)bytes[0] << 8 | bytes[1];
+}
+
+/* The verdict on a sheet: 0 for an order, or the number of a pattern. */
+static inline unsigned sheet_verdict(const uint8_t *sheet)
+{
+    return sheet[1];
+}
+
+/* How many operations a sheet lists. */
+static inline unsigned sheet_k(const uint8_t *sheet)
+{
+    return sheet_u16(sheet + 2);
 }
 
 /* The sheet of the operations 0 to k - 1 in the order of their calls. */

@@ -63,6 +63,33 @@ static yr_answer use_replay(const struct log *log, const struct sheet *sheet)
     return yr_replay(log->bytes, log->length, sheet->bytes, sheet->length);
 }
 
+/* What the entries that write are lent. */
+static uint8_t written[YR_LOG_MAX];
+
+static yr_answer use_judge(const struct log *log, const struct sheet *sheet)
+{
+    (void)sheet;
+    return yr_judge(log->bytes, log->length, written, YR_SHEET_MAX);
+}
+
+static yr_answer use_excerpt(const struct log *log, const struct sheet *sheet)
+{
+    (void)sheet;
+    return yr_excerpt(log->bytes, log->length, written, sizeof written);
+}
+
+/* All values of the logs and more, the highest first. */
+static uint32_t values[2 * YR_MAX_RECORDS];
+
+static yr_answer use_narrow(const struct log *log, const struct sheet *sheet)
+{
+    (void)sheet;
+    for (size_t i = 0; i < sizeof values / sizeof *values; i++)
+        values[i] = (uint32_t)(sizeof values / sizeof *values - 1 - i);
+    return yr_narrow(log->bytes, log->length, values, sizeof values / sizeof *values, written,
+                     sizeof written);
+}
+
 static void *run(void *argument)
 {
     struct call *call = argument;
@@ -127,6 +154,12 @@ static const struct entry check = {
     "yr_check", use_check, 16 * 1024, "yr_check stays under 16 KiB of stack"};
 static const struct entry replay = {
     "yr_replay", use_replay, 64 * 1024, "yr_replay stays under 64 KiB of stack"};
+static const struct entry judge = {
+    "yr_judge", use_judge, 64 * 1024, "yr_judge stays under 64 KiB of stack"};
+static const struct entry excerpt = {
+    "yr_excerpt", use_excerpt, 64 * 1024, "yr_excerpt stays under 64 KiB of stack"};
+static const struct entry narrow = {
+    "yr_narrow", use_narrow, 64 * 1024, "yr_narrow stays under 64 KiB of stack"};
 
 /* Measures an entry on a log and a sheet, which must be answered as told. */
 static void measure_entry(const struct entry *entry, const struct log *log,
@@ -140,19 +173,82 @@ static void measure_entry(const struct entry *entry, const struct log *log,
     count(used < entry->limit, entry->promise);
 }
 
-/* Measures both on a log of a correct queue, with an order that is legal. */
-static void measure_both(const struct log *log, const struct sheet *order, uint32_t operations,
-                         const char *name)
+/* How many bytes the log has once its empty removes are left out: narrowed to all values. */
+static uint32_t length_of_values(const struct log *log)
+{
+    size_t length = log->length;
+    for (size_t at = 3; at < log->length; at += 1u + log->bytes[at])
+        if (log->bytes[at + 1] == RETURN_EMPTY)
+            length -= 2 * (1 + 7);
+    return (uint32_t)length;
+}
+
+/* Measures all entries on a log of a correct queue, with an order that is legal. The judge lists so
+   many of its operations. */
+static void measure_all(const struct log *log, const struct sheet *order, uint32_t operations,
+                        uint32_t listed, const char *name)
 {
     measure_entry(&check, log, order, 0, operations, name);
     measure_entry(&replay, log, order, 0, 1, name);
+    measure_entry(&judge, log, order, 0, SHEET_HEADER + 2 * listed, name);
+    measure_entry(&excerpt, log, order, YR_REFUSAL_ORDER, 0, name);
+    measure_entry(&narrow, log, order, 0, length_of_values(log), name);
 }
 
-/* Measures both on a log that is refused, with an order and with a sheet that is none. */
+/* Measures the entries that write on a log with a pattern that lists so many operations. So many
+   bytes of the log are the excerpt. */
+static void measure_pattern(const struct log *log, uint32_t listed, uint32_t kept, const char *name)
+{
+    measure_entry(&judge, log, NULL, 0, SHEET_HEADER + 2 * listed, name);
+    measure_entry(&excerpt, log, NULL, 0, kept, name);
+    measure_entry(&narrow, log, NULL, 0, length_of_values(log), name);
+}
+
+static void measure_patterns(struct log *log, struct sheet *order)
+{
+    static const char *names[] = {
+        "",
+        "pattern 1 at the end",
+        "pattern 2 at the end",
+        "pattern 3 at the end",
+        "pattern 4 at the end",
+        "pattern 5 at the end",
+        "pattern 6 at the end",
+    };
+    static const uint32_t listed[] = {0, 1, 2, 2, 3, 4, 2};
+    for (unsigned pattern = 1; pattern <= 6; pattern++) {
+        static struct log kept;
+        log_late_pattern(log, order, pattern);
+        log_begin(&kept);
+        log_occurrence(&kept, pattern);
+        measure_pattern(log, listed[pattern], (uint32_t)kept.length, names[pattern]);
+    }
+    log_relay(log, order, 170, 170, LAST_FALSE);
+    measure_pattern(log, 171, length_of_values(log) + 2 * (1 + 7),
+                    "170 empty removes over 170 values, the last one false");
+}
+
+/* Adds that do not return and removes of their values, for the longest sheet. */
+static void measure_longest_sheet(struct log *log, struct sheet *order)
+{
+    log_pending_adds(log, 341);
+    for (unsigned i = 0; i < 341; i++) {
+        log_record(log, CALL_REMOVE, 341, 0);
+        log_record(log, RETURN_VALUE, 341, i);
+    }
+    sheet_call_order(order, 682);
+    measure_all(log, order, 682, 682, "341 adds that do not return, all removed");
+}
+
+/* Measures all entries on a log that is refused; replay with an order and with a sheet that is
+   none. */
 static void measure_refused(const struct log *log, struct sheet *sheet, uint32_t refusal,
                             uint32_t index, const char *name)
 {
     measure_entry(&check, log, sheet, refusal, index, name);
+    measure_entry(&judge, log, sheet, refusal, index, name);
+    measure_entry(&excerpt, log, sheet, refusal, index, name);
+    measure_entry(&narrow, log, sheet, refusal, index, name);
     sheet_call_order(sheet, YR_MAX_RECORDS);
     measure_entry(&replay, log, sheet, refusal, index, name);
     sheet->length--;
@@ -191,17 +287,23 @@ int main(void)
     log_begin(&log);
     sheet_begin(&order);
     measure_method(&log, &order);
-    measure_both(&log, &order, 0, "no records");
+    measure_all(&log, &order, 0, 0, "no records");
     log_pending_adds(&log, 1024);
-    measure_both(&log, &order, 1024, "1,024 adds that never return");
+    measure_all(&log, &order, 1024, 0, "1,024 adds that never return");
     sheet_call_order(&order, 1024);
     measure_entry(&replay, &log, &order, 0, 1, "1,024 adds that never return, all listed");
     log_calls_then_returns(&log, &order);
-    measure_both(&log, &order, 512, "512 calls, then their returns");
+    measure_all(&log, &order, 512, 512, "512 calls, then their returns");
     log_simulate(&log, &order, CLIENTS_REUSED);
-    measure_both(&log, &order, 512, "8 clients at work");
+    measure_all(&log, &order, 512, 512, "8 clients at work");
+    log_simulate_by(&log, &order, CLIENTS_REUSED, MOST_WORKERS);
+    measure_all(&log, &order, 512, 512, "64 clients at work");
     log_simulate(&log, &order, CLIENT_PER_OPERATION);
-    measure_both(&log, &order, 512, "a client for each operation");
+    measure_all(&log, &order, 512, 512, "a client for each operation");
+    log_relay(&log, &order, 170, 170, LAST_TRUE);
+    measure_all(&log, &order, 510, 510, "170 empty removes over 170 values");
+    measure_longest_sheet(&log, &order);
+    measure_patterns(&log, &order);
     measure_other_sheets(&log, &order);
     measure_refused_logs(&log, &order);
     return counted();

@@ -1,14 +1,21 @@
-//! Holds the library against the tests' own reader and their own test of orders, and counts the
-//! answers, so that a generator that no longer reaches some answer is noticed.
+//! Holds check and replay against the tests' own reader and their own test of orders, and all other
+//! entries as well if that is wanted. Counts the answers, so that a generator that no longer
+//! reaches some answer is noticed.
 
+use crate::archive::Archives;
+use crate::guarded::written;
+use crate::narrowing::compare_some_narrowing;
 use crate::sheet::sheet;
-use crate::{check, linearization, reader, refused, replay, Answer, NO, YES};
+use crate::{
+    check, excerpt, judge, linearization, narrow, reader, refused, replay, Answer, NO, YES,
+};
 
 /// How often check gave each answer: at 0 accepted logs, at 1 to 10 the refusals of that number.
 #[derive(Debug, Default)]
 pub struct Tally {
     seen: [u64; 11],
     entries: Entries,
+    archives: Archives,
 }
 
 /// The entries that are handed each log.
@@ -16,7 +23,7 @@ pub struct Tally {
 enum Entries {
     #[default]
     Check,
-    CheckAndReplay,
+    All,
 }
 
 impl Tally {
@@ -24,10 +31,11 @@ impl Tally {
         Tally::default()
     }
 
-    /// A tally that hands each log to replay as well, which has to refuse what check refuses.
-    pub fn with_replay() -> Tally {
+    /// A tally that hands each log to all other entries as well. They have to refuse what check
+    /// refuses; what they answer to readable logs is compared too, for some of these.
+    pub fn of_all_entries() -> Tally {
         Tally {
-            entries: Entries::CheckAndReplay,
+            entries: Entries::All,
             ..Tally::default()
         }
     }
@@ -42,11 +50,36 @@ impl Tally {
             "left: the library, for the log {}",
             show(log)
         );
-        if self.entries == Entries::CheckAndReplay {
-            compare_replay(log, answer);
+        if self.entries == Entries::All {
+            self.compare_others(log, answer);
         }
         self.seen[place(answer)] += 1;
         answer
+    }
+
+    fn compare_others(&mut self, log: &[u8], checked: Answer) {
+        compare_replay(log, checked);
+        match checked {
+            Answer::Accepted(_) if self.is_to_be_judged(log) => {
+                self.archives.compare(log);
+                compare_some_narrowing(log);
+            }
+            Answer::Accepted(_) => {}
+            refusal => assert_nothing_written(log, refusal),
+        }
+    }
+
+    /// Of the readable logs one in 3 is judged, and of the longer ones one in 17, for the time it
+    /// takes. The numbers are odd, since many tests hand in each log in two places.
+    fn is_to_be_judged(&self, log: &[u8]) -> bool {
+        const SHORT: usize = 400;
+        let one_in = if log.len() <= SHORT { 3 } else { 17 };
+        self.seen[0] % one_in == 0
+    }
+
+    /// How often each verdict was given on the readable logs that were judged.
+    pub fn archives(&self) -> &Archives {
+        &self.archives
     }
 
     pub fn total(&self) -> u64 {
@@ -86,6 +119,20 @@ fn compare_replay(log: &[u8], checked: Answer) {
         "left: the library, for the log {}",
         show(log)
     );
+}
+
+/// Hands a log that check refuses to the entries that write. They have to refuse it in the same way
+/// and write nothing.
+fn assert_nothing_written(log: &[u8], refusal: Answer) {
+    const ROOM: usize = 8;
+    let outcomes = [
+        written(ROOM, |sheet| judge(log, sheet)),
+        written(ROOM, |out| excerpt(log, out)),
+        written(ROOM, |out| narrow(log, &[0, 7], out)),
+    ];
+    for outcome in outcomes {
+        assert_eq!(outcome, Err(refusal), "for the log {}", show(log));
+    }
 }
 
 /// How often replay gave each answer: yes, no, and at 1 to 11 the refusals of that number.

@@ -1,10 +1,13 @@
 //! Bytes to lend that are laid right before or right behind memory that may not be read, and that
-//! may not be written themselves: a stray access ends the test by a signal.
+//! may not be written themselves unless they are lent to be: a stray access ends the test by a
+//! signal.
 
 use std::os::raw::{c_int, c_long, c_void};
 use std::{ptr, slice};
 
 use crate::compare::show;
+use crate::guarded::{told, FILLS};
+use crate::Answer;
 
 // Linux on x86-64, where the library runs.
 const PROT_NONE: c_int = 0;
@@ -100,13 +103,18 @@ impl Fenced {
         }
     }
 
+    /// How far into the room so many bytes are laid.
+    fn offset(&self, length: usize, place: Place) -> usize {
+        assert!(length <= self.room);
+        match place {
+            Place::AtTheStart => 0,
+            Place::AtTheEnd => self.room - length,
+        }
+    }
+
     /// Lends a copy of the bytes, laid at that place, to `lend`; then asserts that it is unchanged.
     pub fn lend(&self, bytes: &[u8], place: Place, lend: impl FnOnce(&[u8])) {
-        assert!(bytes.len() <= self.room);
-        let at = match place {
-            Place::AtTheStart => page(),
-            Place::AtTheEnd => page() + self.room - bytes.len(),
-        };
+        let at = page() + self.offset(bytes.len(), place);
         self.mapping
             .protect(page(), self.room, PROT_READ | PROT_WRITE);
         let lent = unsafe { self.mapping.write(at, bytes) };
@@ -114,6 +122,41 @@ impl Fenced {
         lend(lent);
         assert_eq!(lent, bytes, "the lent bytes were changed: {}", show(bytes));
     }
+
+    /// Lends a copy of the values in the same way.
+    pub fn lend_values(&self, values: &[u32], place: Place, lend: impl FnOnce(&[u32])) {
+        let bytes: Vec<u8> = values.iter().flat_map(|v| v.to_ne_bytes()).collect();
+        self.lend(&bytes, place, |lent| {
+            // The room begins and ends with a page, so four bytes are a whole number of steps.
+            assert!(lent.as_ptr().cast::<u32>().is_aligned());
+            lend(unsafe { slice::from_raw_parts(lent.as_ptr().cast(), values.len()) });
+        });
+    }
+
+    /// Lends `length` bytes, laid at that place, for a call to write to: those that it says it
+    /// wrote, or its refusal. Asserts that all others of the room are as before; of a refused call,
+    /// all.
+    pub fn written(
+        &mut self,
+        length: usize,
+        place: Place,
+        call: impl FnOnce(&mut [u8]) -> Answer,
+    ) -> Result<Vec<u8>, Answer> {
+        let at = self.offset(length, place);
+        self.mapping
+            .protect(page(), self.room, PROT_READ | PROT_WRITE);
+        let room = unsafe { slice::from_raw_parts_mut(self.mapping.start.add(page()), self.room) };
+        room.fill(FILLS[0]);
+        let answer = call(&mut room[at..at + length]);
+        told(room, at, length, FILLS[0], answer)
+    }
+}
+
+/// Lends `length` zeros to write to, of which the first page may be accessed.
+pub fn lend_long_to_write(length: usize, lend: impl FnOnce(&mut [u8])) {
+    let mapping = Mapping::new(length + page(), PROT_NONE);
+    mapping.protect(0, page(), PROT_READ | PROT_WRITE);
+    lend(unsafe { slice::from_raw_parts_mut(mapping.start, length) });
 }
 
 /// Lends `length` bytes, which are `first` and zeros behind it, without that much memory.

@@ -1,22 +1,32 @@
-//! The library as its callers see it, and what the tests hold it against: a reader and a test of
-//! orders of their own, builders of logs and sheets, and a count of the answers seen.
+//! The library as its callers see it, and what the tests hold it against: a reader, a test of
+//! orders, a search for one, a table of patterns, excerpts and narrowings of their own; builders of
+//! logs and sheets; and a count of the answers seen.
 
+pub mod archive;
 pub mod build;
+pub mod changed_logs;
 pub mod clients;
 pub mod compare;
 pub mod enumerate;
 pub mod fenced;
+pub mod guarded;
 pub mod history;
 pub mod linearization;
 pub mod lists;
 pub mod moments;
+pub mod narrowing;
 pub mod notation;
+pub mod projection;
+pub mod put_in;
 pub mod random;
 pub mod reader;
+pub mod relay;
 pub mod samples;
+pub mod search;
 pub mod sheet;
 pub mod simulation;
 pub mod spoil;
+pub mod violations;
 
 /// What a call of the library answers.
 #[derive(Clone, Copy, Debug, PartialEq, Eq)]
@@ -34,10 +44,21 @@ pub const NO: Answer = Answer::Accepted(0);
 extern "C" {
     fn yr_check(log: *const u8, log_len: usize) -> u64;
     fn yr_replay(log: *const u8, log_len: usize, sheet: *const u8, sheet_len: usize) -> u64;
+    fn yr_judge(log: *const u8, log_len: usize, sheet: *mut u8, sheet_len: usize) -> u64;
+    fn yr_excerpt(log: *const u8, log_len: usize, out: *mut u8, out_len: usize) -> u64;
+    fn yr_narrow(
+        log: *const u8,
+        log_len: usize,
+        values: *const u32,
+        count: usize,
+        out: *mut u8,
+        out_len: usize,
+    ) -> u64;
 }
 
-// The pointer of a slice is never NULL, and the library may read as many bytes behind it as the
-// slice has.
+// The pointer of a slice is never NULL, and the library may read as many items behind it as the
+// slice has; it may write as many bytes behind that of a slice that is lent by `&mut`, which
+// overlaps no other.
 
 /// Reads a log with the library: the number of its operations, or a refusal.
 pub fn check(log: &[u8]) -> Answer {
@@ -47,6 +68,30 @@ pub fn check(log: &[u8]) -> Answer {
 /// Holds the order on a sheet against a log with the library: yes, no, or a refusal.
 pub fn replay(log: &[u8], sheet: &[u8]) -> Answer {
     answer(unsafe { yr_replay(log.as_ptr(), log.len(), sheet.as_ptr(), sheet.len()) })
+}
+
+/// Judges a log with the library: the number of bytes written to the sheet, or a refusal.
+pub fn judge(log: &[u8], sheet: &mut [u8]) -> Answer {
+    answer(unsafe { yr_judge(log.as_ptr(), log.len(), sheet.as_mut_ptr(), sheet.len()) })
+}
+
+/// Makes the excerpt of a log with the library: the number of bytes written, or a refusal.
+pub fn excerpt(log: &[u8], out: &mut [u8]) -> Answer {
+    answer(unsafe { yr_excerpt(log.as_ptr(), log.len(), out.as_mut_ptr(), out.len()) })
+}
+
+/// Narrows a log to values with the library: the number of bytes written, or a refusal.
+pub fn narrow(log: &[u8], values: &[u32], out: &mut [u8]) -> Answer {
+    answer(unsafe {
+        yr_narrow(
+            log.as_ptr(),
+            log.len(),
+            values.as_ptr(),
+            values.len(),
+            out.as_mut_ptr(),
+            out.len(),
+        )
+    })
 }
 
 /// The parts of the number that a call returns.

@@ -5,6 +5,7 @@ use std::collections::{HashMap, VecDeque};
 
 use crate::build::{call_add, call_remove, return_add, return_empty, return_value};
 use crate::clients::clients_apart;
+use crate::history::{operations, Action, Operation};
 use crate::random::Random;
 use crate::reader::{Event, Record, Removed};
 
@@ -17,6 +18,16 @@ pub enum Clients {
     OnePerOperation,
 }
 
+/// How full the queue of a simulated run is.
+#[derive(Clone, Copy, Default, PartialEq, Eq)]
+pub enum Load {
+    /// Adds and removes are as likely, so that the queue is often empty.
+    #[default]
+    Even,
+    /// An add is called wherever few values are in the queue, so that it seldom is empty.
+    Busy,
+}
+
 /// The `n` records of a run of a correct queue with `workers` clients at work at once.
 pub fn simulate(workers: u16, clients: Clients, n: usize, seed: u64) -> Vec<Record> {
     simulate_run(workers, clients, n, seed).records
@@ -25,9 +36,17 @@ pub fn simulate(workers: u16, clients: Clients, n: usize, seed: u64) -> Vec<Reco
 /// A run of a correct queue with `workers` clients at work at once and `n` records, n even. Every
 /// operation returns. Each takes effect at some moment between its call and its return.
 pub fn simulate_run(workers: u16, clients: Clients, n: usize, seed: u64) -> Run {
+    simulate_load(Load::Even, workers, clients, n, seed)
+}
+
+/// The same with a queue as full as the load says.
+pub fn simulate_load(load: Load, workers: u16, clients: Clients, n: usize, seed: u64) -> Run {
     assert!(n % 2 == 0, "every operation has two records");
     let mut random = Random::new(seed);
-    let mut simulation = Simulation::default();
+    let mut simulation = Simulation {
+        load,
+        ..Simulation::default()
+    };
     let idle = |client| Worker {
         client,
         number: 0,
@@ -94,6 +113,22 @@ impl Run {
         }
     }
 
+    /// The run with removes at its end, one after the other, that take what was left in the queue.
+    pub fn drained(&self) -> Run {
+        let mut run = self.clone();
+        let client = run.records.iter().map(|r| r.client + 1).max().unwrap_or(0);
+        let tick = run.records.last().map_or(0, |record| record.tick);
+        let operations = operations(&self.records);
+        for (number, value) in
+            (operations.len() as u16..).zip(left_in_queue(&operations, &run.order))
+        {
+            run.records.push(call_remove(client, tick));
+            run.records.push(return_value(client, tick, value));
+            run.order.push(number);
+        }
+        run
+    }
+
     /// The run with its clients numbered that far apart, as far as 16 bits allow.
     pub fn with_clients_apart(&self, distance: u16) -> Run {
         Run {
@@ -101,6 +136,18 @@ impl Run {
             order: self.order.clone(),
         }
     }
+}
+
+/// The values that an order leaves in the queue, the front first.
+fn left_in_queue(operations: &[Operation], order: &[u16]) -> VecDeque<u32> {
+    let mut queue = VecDeque::new();
+    for &number in order {
+        match operations[usize::from(number)].action {
+            Action::Add(value) => queue.push_back(value),
+            Action::Remove(_) => drop(queue.pop_front()),
+        }
+    }
+    queue
 }
 
 struct Worker {
@@ -125,6 +172,7 @@ enum Work {
 /// The state of a simulated run.
 #[derive(Default)]
 struct Simulation {
+    load: Load,
     run: Run,
     queue: VecDeque<u32>,
     tick: u32,
@@ -183,13 +231,18 @@ impl Simulation {
         // An odd factor keeps the values apart and spreads them over all 32 bits.
         let value = (self.calls as u32).wrapping_mul(0x9E37_79B1);
         self.calls += 1;
-        if random.below(2) == 0 {
+        if self.is_to_fill() || random.below(2) == 0 {
             self.log(call_add(client, self.tick, value));
             Work::Add { value, done: false }
         } else {
             self.log(call_remove(client, self.tick));
             Work::Remove { outcome: None }
         }
+    }
+
+    fn is_to_fill(&self) -> bool {
+        const FEW: usize = 3;
+        self.load == Load::Busy && self.queue.len() < FEW
     }
 
     fn log(&mut self, record: Record) {

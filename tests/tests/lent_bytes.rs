@@ -1,6 +1,6 @@
-//! Check and replay read nothing outside the bytes of a lent log and write nothing to them. The log
-//! is laid right before or right behind memory that may not be read, and may not be written itself:
-//! a stray access ends the test by a signal.
+//! No entry reads outside the bytes of a lent log or writes to them. The log is laid right before
+//! or right behind memory that may not be read, and may not be written itself: a stray access ends
+//! the test by a signal.
 
 use yauponroof_tests::build::{header, log};
 use yauponroof_tests::compare::Tally;
@@ -46,7 +46,7 @@ fn long_logs() -> Vec<Vec<u8>> {
 #[test]
 fn whole_logs_and_no_bytes() {
     let fenced = fenced_for_all();
-    let mut tally = Tally::with_replay();
+    let mut tally = Tally::of_all_entries();
     compare(&fenced, &[], &mut tally);
     for log in short_logs().iter().chain(&long_logs()) {
         compare(&fenced, log, &mut tally);
@@ -57,7 +57,7 @@ fn whole_logs_and_no_bytes() {
 #[test]
 fn logs_cut_at_every_byte() {
     let fenced = fenced_for_all();
-    let mut tally = Tally::with_replay();
+    let mut tally = Tally::of_all_entries();
     for log in short_logs() {
         for length in 0..log.len() {
             compare(&fenced, &log[..length], &mut tally);
@@ -74,7 +74,7 @@ fn logs_cut_at_every_byte() {
 #[test]
 fn every_length_byte_with_fewer_bytes_behind_it() {
     let fenced = fenced_for_all();
-    let mut tally = Tally::with_replay();
+    let mut tally = Tally::of_all_entries();
     for kind in 0..=6 {
         for length in 0..=u8::MAX {
             for behind in (0..=12).chain([254, 255]) {
@@ -94,7 +94,7 @@ fn damaged_logs() {
     let mut random = Random::new(5);
     let short = short_logs();
     let telling: Vec<u8> = (0..=12).chain([254, 255]).collect();
-    let mut tally = Tally::with_replay();
+    let mut tally = Tally::of_all_entries();
     for _ in 0..40_000 {
         let mut bytes = random.pick(&short).clone();
         for _ in 0..=random.below(2) {
@@ -109,13 +109,15 @@ fn damaged_logs() {
     tally.assert_at_least([
         5000, 20_000, 2000, 1500, 3000, 4000, 10_000, 200, 5000, 25, 500,
     ]);
+    let archives = tally.archives();
+    archives.assert_at_least([600, 1000, 40, 50, 60, 40, 150]);
 }
 
 #[test]
 fn random_bytes() {
     let fenced = fenced_for_all();
     let mut random = Random::new(6);
-    let mut tally = Tally::with_replay();
+    let mut tally = Tally::of_all_entries();
     for _ in 0..40_000 {
         let mut bytes = header(random.below(4) as u16);
         bytes.extend((0..random.below(40)).map(|_| random.below(13) as u8));

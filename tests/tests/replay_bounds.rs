@@ -5,12 +5,10 @@ use yauponroof_tests::compare::Replays;
 use yauponroof_tests::random::Random;
 use yauponroof_tests::reader::{Record, MAX_RECORDS};
 use yauponroof_tests::samples::{calls_then_returns, pending_adds};
-use yauponroof_tests::sheet::sheet;
+use yauponroof_tests::sheet::{sheet, MOST_JUDGED};
 use yauponroof_tests::{replay, NO, YES};
 
-/// The most operations that an order of the judge can list: of three records, one calls an add and
-/// two are the remove of its value.
-const JUDGED: u16 = 682;
+const JUDGED: u16 = MOST_JUDGED as u16;
 
 fn call_order(count: usize) -> Vec<u16> {
     (0..count as u16).collect()

@@ -8,7 +8,7 @@ use yauponroof_tests::compare::Replays;
 use yauponroof_tests::lists::compare_every_list;
 use yauponroof_tests::notation::run;
 use yauponroof_tests::reader::Record;
-use yauponroof_tests::samples::{PROGRAM_EXAMPLE, RUNS};
+use yauponroof_tests::samples::{Verdict, PROGRAM_EXAMPLE, RUNS};
 use yauponroof_tests::sheet::sheet;
 use yauponroof_tests::{replay, NO, YES};
 
@@ -26,8 +26,8 @@ fn legal_orders_of_run(text: &str) -> Vec<Vec<u16>> {
 #[test]
 fn the_orders_of_the_document_are_legal() {
     let mut orders = 0;
-    for (text, _, order) in RUNS {
-        if let Some(order) = order {
+    for (text, _, verdict) in RUNS {
+        if let Verdict::Order(order) = verdict {
             assert_eq!(replay(&log(&run(text)), &sheet(order)), YES, "{text}");
             orders += 1;
         }
@@ -37,12 +37,9 @@ fn the_orders_of_the_document_are_legal() {
 
 #[test]
 fn where_the_document_has_a_pattern_nothing_is_legal() {
-    for (text, _, order) in RUNS {
-        assert_eq!(
-            legal_orders_of_run(text).is_empty(),
-            order.is_none(),
-            "{text}"
-        );
+    for (text, _, verdict) in RUNS {
+        let has_order = matches!(verdict, Verdict::Order(_));
+        assert_eq!(!legal_orders_of_run(text).is_empty(), has_order, "{text}");
     }
 }
 

@@ -1,11 +1,11 @@
 //! The form of the sheet that replay is handed: refusal 11 looks at it alone. Every refusal of the
 //! log comes before it, and what the sheet lists is answered by yes or no.
 
-use yauponroof_tests::build::{call_add, call_remove, hex, log, return_empty};
+use yauponroof_tests::build::{hex, log};
 use yauponroof_tests::compare::Replays;
 use yauponroof_tests::notation::run;
 use yauponroof_tests::reader::MAX_RECORDS;
-use yauponroof_tests::samples::{calls_then_returns, pending_adds};
+use yauponroof_tests::samples::{calls_then_returns, pending_adds, refused_logs};
 use yauponroof_tests::sheet::{sheet, sheet_with_k, HEADER};
 use yauponroof_tests::{check, refused, replay, Answer, NO, YES};
 
@@ -130,22 +130,6 @@ fn each_number_that_the_log_lacks() {
         replays.compare(&log, &sheet(&[2, number, 0]));
     }
     replays.assert_answered(4, 2 * 65_530);
-}
-
-/// Logs with a refusal each, 1 to 10.
-fn refused_logs() -> Vec<Vec<u8>> {
-    vec![
-        hex("01"),
-        hex("020000"),
-        hex("010401"),
-        hex("01000103090000"),
-        hex("01000100"),
-        log(&[call_add(1, 5, 1), call_add(2, 4, 2)]),
-        log(&[call_add(1, 5, 1), call_remove(1, 5)]),
-        log(&[call_add(1, 5, 1), return_empty(1, 5)]),
-        log(&run("A7( A7) A7(")),
-        log(&run("A7( A7) R( R7) R(")),
-    ]
 }
 
 /// Sheets that are refused, for each reason and for several at once.

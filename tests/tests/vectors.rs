@@ -1,14 +1,17 @@
 //! The vectors that lie beside the repository, where they do. Every line that hands in a log tells
 //! whether the reader takes it, and many tell what replay answers: those that call it, and those in
-//! which the judge or the program lists an order.
+//! which the judge or the program lists an order. The lines of judge, excerpt and narrow tell what
+//! these write.
 
 use std::io::{stderr, Write};
 use std::path::{Path, PathBuf};
 
 use yauponroof_tests::build::hex;
 use yauponroof_tests::compare::{Replays, Tally};
-use yauponroof_tests::sheet::{sheet, ORDER};
-use yauponroof_tests::{refused, Answer, NO, YES};
+use yauponroof_tests::guarded::written_twice;
+use yauponroof_tests::reader::LOG_MAX;
+use yauponroof_tests::sheet::{order_on, sheet, ORDER};
+use yauponroof_tests::{excerpt, judge, narrow, refused, replay, Answer, NO, YES};
 
 /// The program takes this many bytes of its input as the log.
 const PROGRAM_INPUT: usize = 12_292;
@@ -89,7 +92,7 @@ fn decimal(word: &str) -> u32 {
 
 #[test]
 fn the_reader_answers_as_the_vectors_say() {
-    let mut tally = Tally::with_replay();
+    let mut tally = Tally::of_all_entries();
     if !visit_lines(|line| check_reading(&line, &mut tally)) {
         return;
     }
@@ -180,5 +183,123 @@ fn written_sheet(line: &Line) -> Option<(Vec<u8>, Answer)> {
             Some((sheet(&order), YES))
         }
         _ => None,
+    }
+}
+
+/// What an entry that writes gave: the bytes, or its refusal.
+type Outcome = Result<Vec<u8>, Answer>;
+
+/// What a line says an entry writes, and whether another order over the same operations is as good.
+fn outcome_told(answer: &[&str]) -> (Outcome, bool) {
+    match answer {
+        ["wrote", written] => (Ok(bytes(Some(written))), false),
+        ["wrote", written, "?"] => (Ok(bytes(Some(written))), true),
+        ["refused", number, index] => (Err(refused(decimal(number), decimal(index))), false),
+        _ => panic!("no answer of an entry that writes: {answer:?}"),
+    }
+}
+
+/// The length of the buffer that a line lends, told behind the other fields and a dash for "no
+/// table". Without one the buffer is long enough.
+fn lent(fields: &[&str]) -> usize {
+    match fields {
+        [] | ["-"] | ["-", "-"] => LOG_MAX,
+        ["-", length] => decimal(length) as usize,
+        _ => panic!("fields of no known form: {fields:?}"),
+    }
+}
+
+/// How many lines of an entry were compared.
+#[derive(Default)]
+struct Lines {
+    written: u64,
+    other_order: u64,
+    refused: u64,
+}
+
+impl Lines {
+    fn compare(&mut self, line: &Line, outcome: Outcome) {
+        match outcome_told(&line.answer) {
+            (Ok(told), true) => {
+                let written = outcome.unwrap_or_else(|_| panic!("refused: {}", line.text));
+                assert_as_good(&line.log, &written, &told);
+                self.other_order += 1;
+            }
+            (told, _) => {
+                assert_eq!(outcome, told, "left: the library, for {}", line.text);
+                match told {
+                    Ok(_) => self.written += 1,
+                    Err(_) => self.refused += 1,
+                }
+            }
+        }
+    }
+
+    /// Asserts that so many lines at least were compared whose answer is written, is an order that
+    /// has others as good, or is a refusal.
+    fn assert_compared(&self, written: u64, other_order: u64, refused: u64) {
+        assert!(
+            self.written >= written && self.other_order >= other_order && self.refused >= refused,
+            "only {}, {} and {} lines were compared",
+            self.written,
+            self.other_order,
+            self.refused
+        );
+    }
+}
+
+/// The sheets list the same operations, and replay says yes to both.
+fn assert_as_good(log: &[u8], written: &[u8], told: &[u8]) {
+    let [listed, expected] = [written, told].map(|sheet| {
+        assert_eq!(replay(log, sheet), YES);
+        let mut operations = order_on(sheet).expect("an order");
+        operations.sort();
+        operations
+    });
+    assert_eq!(listed, expected);
+}
+
+#[test]
+fn the_judge_writes_what_the_vectors_say() {
+    let mut lines = Lines::default();
+    let is_there = visit_lines(|line| {
+        if line.entry == "judge" {
+            let outcome = written_twice(lent(&line.fields), |sheet| judge(&line.log, sheet));
+            lines.compare(&line, outcome);
+        }
+    });
+    if is_there {
+        lines.assert_compared(114, 5, 496);
+    }
+}
+
+#[test]
+fn excerpts_are_what_the_vectors_say() {
+    let mut lines = Lines::default();
+    let is_there = visit_lines(|line| {
+        if line.entry == "excerpt" {
+            let outcome = written_twice(lent(&line.fields), |out| excerpt(&line.log, out));
+            lines.compare(&line, outcome);
+        }
+    });
+    if is_there {
+        lines.assert_compared(6, 0, 105);
+    }
+}
+
+#[test]
+fn narrowings_are_what_the_vectors_say() {
+    let mut lines = Lines::default();
+    let is_there = visit_lines(|line| {
+        if line.entry == "narrow" {
+            let (values, rest) = line.fields.split_first().expect("values");
+            let number = |four: &[u8]| u32::from_be_bytes(four.try_into().expect("four bytes"));
+            let values: Vec<u32> = bytes(Some(values)).chunks(4).map(number).collect();
+            let outcome = written_twice(lent(rest), |out| narrow(&line.log, &values, out));
+            lines.compare(&line, outcome);
+        }
+    });
+    if is_there {
+        lines.assert_compared(6, 0, 70);
     }
 }

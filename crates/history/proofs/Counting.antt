@@ -75,5 +75,24 @@ different-are-few f (suc k) (suc n) small apart = go (lowest (λ i. f i ≡ n) (
               (λ j m l h. apart (skip (s .at) j) (skip (s .at) m) (skip-rises (s .at) j m l) (skip-below (s .at) m k h)),
         )
 
+-- so if each of k numbers has a partner below n, and no two have the same one, then k is at most n
+pub partners-are-few : (R : ℕ → ℕ → Type 0) (k n : ℕ) → ((i : ℕ) → i < k → (p : ℕ) × (p < n) × R i p) → ((i j p : ℕ) → i < j → j < k → R i p → R j p → ⊥) → k ≤ n
+partners-are-few R k n some apart =
+    different-are-few (λ i. partner i (decLt i k)) k n
+    (λ i l. partner-below i l (decLt i k))
+    (λ i j l m e. apart i j (partner j (decLt j k)) l m (rw (← e) (partner-is i (omega arith) (decLt i k))) (partner-is j m (decLt j k)))
+  where
+    partner : (i : ℕ) → Dec (i < k) → ℕ
+    partner i (yes l) = some i l .0
+    partner i (no n) = 0
+
+    partner-below : (i : ℕ) → i < k → (d : Dec (i < k)) → partner i d < n
+    partner-below i l (yes m) = some i m .1
+    partner-below i l (no n) = absurd (n l)
+
+    partner-is : (i : ℕ) → i < k → (d : Dec (i < k)) → R i (partner i d)
+    partner-is i l (yes m) = some i m .2
+    partner-is i l (no n) = absurd (n l)
+
 pub linearization-short : (h : History) (order : List ℕ) → Linearization h order → length order ≤ h .count
 linearization-short h order legal = different-are-few (placed order) (length order) (h .count) (legal .known) (legal .once)

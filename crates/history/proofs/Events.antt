@@ -1,5 +1,5 @@
 -- Laws of events: which are calls, and what they ask for and leave pending.
-use Prim.Native.Nat.{_≤_}
+use Prim.Native.Nat.{_+_, _*_, _≤_}
 use native.Mathlib.Omega.{arith}
 use mathlib.Core.Path.{_≡_, refl}
 use Rattle.reader.specs.Log.{isCall}
@@ -40,3 +40,14 @@ isCall-small (CallAdd v) = omega arith
 isCall-small CallRemove = omega arith
 isCall-small ReturnAdd = omega arith
 isCall-small (ReturnRemove x) = omega arith
+
+-- a call asks for nothing and leaves something, a return asks for something and leaves nothing
+call-or-return : (e : Event) → (1 ≤ asks e + isCall e) × (asks e + 2 * isCall e ≤ 2) × (isCall e ≤ leaves e) × (leaves e ≤ 2 * isCall e)
+call-or-return (CallAdd v) = omega arith
+call-or-return CallRemove = omega arith
+call-or-return ReturnAdd = omega arith
+call-or-return (ReturnRemove x) = omega arith
+
+-- of two events of which one asks for what the other leaves, one is a call and one a return
+pub turns-change : (e f : Event) → asks f ≡ leaves e → isCall e + isCall f ≡ 1
+turns-change e f follows = omega (arith, call-or-return e, call-or-return f)

@@ -15,9 +15,9 @@ use Rattle.reader.specs.declared.record.Event.the-variants.{CallAdd, CallRemove
 use Rattle.reader.specs.declared.record.Record.{Record}
 use Rattle.history.specs.History.{add, emptyRemove, Returned, Lawful}
 use Rattle.history.specs.Operations.{callIndex, returnIndex, positionOf, historyOf}
-use Rattle.history.proofs.Numbering.{Called, call-of, same-call, calls-rise, return-is-next, next-is-return}
+use Rattle.history.proofs.Numbering.{Called, call-of, same-call, calls-rise, return-is-next, next-is-return, next-of-one}
 use Rattle.history.proofs.Events.{asks-call, leaves-call, asks-remove}
-use Rattle.history.proofs.Positions.{position-within, position-apart, position-next, position-calls}
+use Rattle.history.proofs.Positions.{position-within, position-apart, position-next, position-calls, position-returned}
 
 module _ {log : List ℕ} {records : List Record} (readable : ReadableLog log records) where
   -- the call and the return of an operation
@@ -122,6 +122,14 @@ module _ {log : List ℕ} {records : List Record} (readable : ReadableLog log re
       go (yes l) d = absurd (readable .partial .once (callOf a) (callOf b) (historyOf records .value b) l (call-of records b k .below) in-a in-b)
       go (no l) (yes m) = absurd (readable .partial .once (callOf b) (callOf a) (historyOf records .value b) m (call-of records a h .below) in-b in-a)
       go (no l) (no m) = same-call records a b h k (omega arith)
+
+  -- two that have returned and return at one position are one
+  pub returns-apart : (o p : ℕ) → o < operations records → p < operations records → Returned (historyOf records) o → historyOf records .ret o ≡ historyOf records .ret p → o ≡ p
+  returns-apart o p h k back e =
+      let at-o : returnOf o < length records = position-returned (readable .partial) (returnOf o) .0 back in
+      let at-p : returnOf p < length records = position-returned (readable .partial) (returnOf p) .0 (rw (← e) back) in
+      let same : returnOf o ≡ returnOf p = position-apart (readable .partial) (returnOf o) (returnOf p) at-o at-p (sym (returned-at o at-o) ∙ e ∙ returned-at p at-p) in
+      same-call records o p h k (next-of-one records (callOf o) (callOf p) (returnOf p) (rw (← same) (return-is-next records (callOf o) at-o)) (return-is-next records (callOf p) at-p))
 
 -- the history of a readable log
 pub history-lawful : {log : List ℕ} {records : List Record} → ReadableLog log records → Lawful (historyOf records)

@@ -15,3 +15,4 @@ pub mod Reaching
 pub mod Rows
 pub mod Searching
 pub mod Sheets
+pub mod Tabulating

@@ -83,6 +83,10 @@ ranks-below records i = go (decLt i (length records))
     go (yes l) = rw (take-length records) at (ranks-rise records i (length records) (omega arith))
     go (no l) = rw (take-all i records (omega arith)) (omega arith)
 
+-- the number of a call is one of an operation
+pub rank-known : (records : List Record) (i : ℕ) → i < length records → isCall (recordOf records i .event) ≡ 1 → operations (take i records) < operations records
+rank-known records i h c = omega (arith, rank-step records i h, ranks-below records (i + 1))
+
 -- an operation that is counted before record n is called before it
 pub called-before : (records : List Record) (n o : ℕ) → o < operations (take n records) → callIndex records o < n
 called-before records n o h = go (decLt (callIndex records o) n)
@@ -121,12 +125,26 @@ first-none client (r ∷ records) (suc k) h e = go (eqb (r .client) client) h (f
     go true l ih = omega arith
     go false l ih = ih (omega arith) e
 
+-- and it finds it before the end, or nothing at the end
+first-within : (client : ℕ) (records : List Record) → firstOf client records ≤ length records
+unfolding firstOf
+first-within client [] = omega arith
+first-within client (r ∷ records) = go (eqb (r .client) client) (first-within client records)
+  where
+    go : (b : Bool) → firstOf client records ≤ length records → (if b then 0 else suc (firstOf client records)) ≤ suc (length records)
+    go true ih = omega arith
+    go false ih = omega arith
+
 behind : (records : List Record) (i k : ℕ) → recordOf (drop (i + 1) records) k ≡ recordOf records (i + 1 + k)
 behind records i k = getD-drop (i + 1) records k (record { client = 0; tick = 0; event = CallRemove })
 
 -- a return stands behind its call
 pub return-behind : (records : List Record) (i : ℕ) → i < returnIndex records i
 return-behind records i = omega arith
+
+-- and no further than at the end
+pub return-within : (records : List Record) (i : ℕ) → i < length records → returnIndex records i ≤ length records
+return-within records i h = omega (arith, first-within (recordOf records i .client) (drop (i + 1) records), length-drop (i + 1) records)
 
 -- no record of its client stands between
 none-between : (records : List Record) (i k : ℕ) → i < k → k < returnIndex records i → recordOf records k .client ≡ recordOf records i .client → ⊥

@@ -1,4 +1,4 @@
 // The operations of a readable log: what each is, and when it was called and returned.
-mod callers;
+pub mod callers;
 mod fill;
 pub mod operations;

@@ -7,7 +7,7 @@ use mathlib.Core.Bool.{Bool, true, false, not}
 use mathlib.Core.List.{List, [], _∷_, _++_, map, append-nil}
 use lib.ListN.{length, getD, length-append}
 use lib.Dec.{ltb, eqb, lit<, lit≤, leb·suc-suc}
-use borrow.Author.Tests.{lt-ltb, ne-eqb, eqb-true, eqb-false}
+use borrow.Author.Tests.{lt-ltb, eq-eqb, ne-eqb, eqb-true, eqb-false}
 use Rattle.reader.specs.Choice.{if_then_else_}
 use Rattle.reader.specs.Log.{Call, callOf, ofOthers, pendingCalls, pendingKind, earliestRemove, isIn}
 use Rattle.reader.specs.Tables.{position, without, clientsOf, code, kindOfFound, earliestCode}
@@ -223,3 +223,11 @@ earliest-below {n} (call ∷ calls) client (one-call h b) e = go (eqb (call .kin
     go : (t : Bool) → eqb (call .kind) 2 ≡ t → (pendingKind calls client ≡ 2 → earliestRemove calls n < n) → (if t then call .index else earliestRemove calls n) < n
     go true q ih = h
     go false q ih = ih (other (eqb (call .client) client) (eqb-false (call .kind) 2 q) e)
+
+-- and without a pending remove there is no earliest one
+pub earliest-absent : (calls : List Call) (least : ℕ) → Sound calls → ((client : ℕ) → pendingKind calls client ≡ 2 → ⊥) → earliestRemove calls least ≡ least
+unfolding pendingKind earliestRemove
+earliest-absent [] least none absent = refl
+earliest-absent (call ∷ calls) least (more pos small own s) absent =
+    rw (ne-eqb (call .kind) 2 (λ e. absent (call .client) (rw (eq-eqb (call .client) (call .client) refl) e)))
+    (earliest-absent calls least s (λ client e. absent client (rw (ne-eqb (call .client) client (λ q. omega (arith, ap (pendingKind calls) q))) e)))

@@ -33,6 +33,11 @@ nth-last r past =
 nth-earlier : (r : Record) (past : List Record) (i : ℕ) → i < length past → nth (r ∷ past) i ≡ nth past i
 nth-earlier r past i h = rw reverse-cons (List·getD-append (reverse past) (r ∷ []) _ i (omega (arith, length-reverse past)))
 
+-- the tick of the record before is one of theirs
+pub last-tick : (past : List Record) (bound : ℕ) → ((i : ℕ) → i < length past → nth past i .tick ≤ bound) → lastTick past ≤ bound
+last-tick [] bound below = omega arith
+last-tick (r ∷ past) bound below = rw (nth-last r past) at (below (length past) (omega arith))
+
 tick-last : (past : List Record) → Admits past → (i : ℕ) → i < length past → nth past i .tick ≤ lastTick past
 tick-last [] none i h = absurd (omega arith)
 tick-last (r ∷ past) (more ok a) i h = go (eq-or-lt-of-le (omega arith)) (tick-last past a i)
@@ -75,7 +80,7 @@ kind-other r past client n =
     other-kind (r .client) client (pendingCalls past) (callOf (r .event) (r .client) (length past)) n (other-call (r .event) (r .client) (length past) client (λ e. n (sym e)))
 
 -- a client's pending call is what its latest record leaves
-kind-latest : (past : List Record) (i : ℕ) → i < length past → ((k : ℕ) → i < k → k < length past → nth past k .client ≡ nth past i .client → ⊥)
+pub kind-latest : (past : List Record) (i : ℕ) → i < length past → ((k : ℕ) → i < k → k < length past → nth past k .client ≡ nth past i .client → ⊥)
     → pendingKind (pendingCalls past) (nth past i .client) ≡ leaves (nth past i .event)
 kind-latest [] i h alone = absurd (omega arith)
 kind-latest (r ∷ past) i h alone = go (eq-or-lt-of-le (omega arith)) (kind-latest past i)
@@ -89,7 +94,7 @@ kind-latest (r ∷ past) i h alone = go (eq-or-lt-of-le (omega arith)) (kind-lat
         rw same (kind-other r past (nth past i .client) apart ∙ ih l (λ k a b e. alone k a (omega arith) (rw (nth-earlier r past k b, same) e)))
 
 -- a client without a record has no pending call
-kind-absent : (past : List Record) (client : ℕ) → ((k : ℕ) → k < length past → nth past k .client ≡ client → ⊥) → pendingKind (pendingCalls past) client ≡ 0
+pub kind-absent : (past : List Record) (client : ℕ) → ((k : ℕ) → k < length past → nth past k .client ≡ client → ⊥) → pendingKind (pendingCalls past) client ≡ 0
 unfolding pendingCalls pendingKind
 kind-absent [] client alone = refl
 kind-absent (r ∷ past) client alone =
@@ -146,6 +151,20 @@ value-added (r ∷ past) i v h e = go (eq-or-lt-of-le (omega arith)) (value-adde
         let own : r .event ≡ CallAdd v = rw (q, nth-last r past) at e in
         rw own (isIn-last v (addedValues past))
     go (inr l) ih = rw (isIn-append v (addedValues past) (valueOf (r .event)), ih l (rw (nth-earlier r past i l) at e)) refl
+
+-- and one that no record calls to be added is not
+pub value-absent : (past : List Record) (v : ℕ) → ((i : ℕ) → i < length past → nth past i .event ≡ CallAdd v → ⊥) → isIn v (addedValues past) ≡ false
+unfolding addedValues isIn
+value-absent [] v absent = refl
+value-absent (r ∷ past) v absent =
+    rw (isIn-append v (addedValues past) (valueOf (r .event)), value-absent past v (λ i h e. absent i (omega arith) (rw (nth-earlier r past i h) e)))
+    (go (r .event) (λ e. absent (length past) (omega arith) (rw (nth-last r past) e)))
+  where
+    go : (e : Event) → (e ≡ CallAdd v → ⊥) → isIn v (valueOf e) ≡ false
+    go (CallAdd w) n = rw (ne-eqb w v (λ q. n (ap CallAdd q))) refl
+    go CallRemove n = refl
+    go ReturnAdd n = refl
+    go (ReturnRemove x) n = refl
 
 -- no value is called to be added twice
 pub once-law : (past : List Record) → Admits past → (i j v : ℕ) → i < j → j < length past → nth past i .event ≡ CallAdd v → nth past j .event ≡ CallAdd v → ⊥

@@ -29,7 +29,7 @@ event-there log at (ReturnRemove (Value v)) after h d = ap (λ (v : ℕ). Return
 event-there log at (ReturnRemove Empty) after h d = refl
 
 -- a record takes as many bytes as its size says
-encode-length : (r : Record) → length (encode r) ≡ sizeOf r
+pub encode-length : (r : Record) → length (encode r) ≡ sizeOf r
 unfolding encode bytesOf lengthOf
 encode-length r = go (r .event)
   where

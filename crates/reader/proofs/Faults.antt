@@ -1,11 +1,11 @@
--- What it means that nothing is wrong with a record behind those before it.
+-- What it means that nothing is wrong with a record behind those before it, in both directions.
 use Prim.Native.Nat.{ℕ, _≤_}
 use native.Mathlib.Omega.{arith}
 use mathlib.Core.Path.{_≡_, refl}
 use mathlib.Core.Bool.{Bool, true, false, not}
 use mathlib.Core.List.{List}
 use lib.Dec.{ltb, eqb}
-use borrow.Author.Tests.{ltb-false, eqb-true}
+use borrow.Author.Tests.{ltb-false, le-ltb, eqb-true}
 use Rattle.reader.specs.Choice.{if_then_else_}
 use Rattle.reader.specs.Log.{pendingCalls, pendingKind, addedValues, isIn, lastTick, eventFault, fault}
 use Rattle.reader.specs.Readable.{asks}
@@ -55,3 +55,14 @@ no-fault past r ok = go (ltb (r .tick) (lastTick past)) refl ok
     go false t z =
         let fine = event-fine (r .event) kind (addedValues past) z in
         record { tick = ltb-false (r .tick) (lastTick past) t; asked = fine .0; fresh = fine .1 }
+
+-- and back: a record that has these parts has no fault
+pub fault-none : {past : List Record} {r : Record} → NoFault past r → fault past r ≡ 0
+unfolding fault eventFault
+fault-none {past} {r} fine = rw (le-ltb (r .tick) (lastTick past) (fine .tick), fine .asked) (go (r .event) (fine .fresh))
+  where
+    go : (e : Event) → ((v : ℕ) → e ≡ CallAdd v → isIn v (addedValues past) ≡ false) → eventFault e (asks e) (addedValues past) ≡ 0
+    go (CallAdd v) new = rw (new v refl) refl
+    go CallRemove new = refl
+    go ReturnAdd new = refl
+    go (ReturnRemove x) new = refl

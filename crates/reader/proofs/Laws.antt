@@ -23,6 +23,8 @@ use Rattle.reader.proofs.Encoding.{decode-encodes, log-encodes}
 use Rattle.reader.proofs.Bytes.{count-law, few-law, stands-law, fills-law, short-law, bytes-law, writable-law}
 use Rattle.reader.proofs.Clients.{ticks-law, first-law, next-law, once-law, follows-law, precedes-law, returned-law}
 use Rattle.reader.proofs.Run.{Admits, none, Read, reads, run-admits}
+-- The records of a readable log of bytes are orderly, and a log of orderly records is read as them.
+pub use Rattle.reader.proofs.Orderly.{readable-orderly, orderly-readable}
 
 -- what holds of the records as they were read, latest first, holds of the log's records
 read-partial : {log : List ℕ} {records : List Record} → Read log records → PartialLog log records

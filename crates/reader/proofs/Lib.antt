@@ -9,6 +9,7 @@ pub mod Keeping
 pub mod Laws
 pub mod Lists
 pub mod Numbers
+pub mod Orderly
 pub mod Readers
 pub mod Records
 pub mod Run

@@ -1,3 +1,4 @@
+pub mod Buffer
 pub mod Choice
 pub mod Number
 pub mod Refusal

@@ -106,3 +106,14 @@ pub record ReadableLog (log : List ℕ) (records : List Record) : Type 0 where
   pub partial : PartialLog log records
   -- every remove has a return: its client's next record, which asks for a remove's call by `next`
   pub returned : (i : ℕ) → i < length records → recordOf records i .event ≡ CallRemove → (j : ℕ) × Next records i j
+
+-- What makes records those of a readable log: there is room for them, their fields fit, ticks do not fall, each client's records go call,
+-- return, call, .., no value is called to be added twice and every remove has a return. The parts are those of the records above.
+pub record Orderly (records : List Record) : Type 0 where
+  pub few : length records ≤ maxRecords
+  pub small : (i : ℕ) → i < length records → Small (recordOf records i)
+  pub ticks : (i j : ℕ) → i ≤ j → j < length records → recordOf records i .tick ≤ recordOf records j .tick
+  pub first : (j : ℕ) → j < length records → ((k : ℕ) → k < j → recordOf records k .client ≡ recordOf records j .client → ⊥) → asks (recordOf records j .event) ≡ 0
+  pub next : (i j : ℕ) → Next records i j → asks (recordOf records j .event) ≡ leaves (recordOf records i .event)
+  pub once : (i j v : ℕ) → i < j → j < length records → recordOf records i .event ≡ CallAdd v → recordOf records j .event ≡ CallAdd v → ⊥
+  pub returned : (i : ℕ) → i < length records → recordOf records i .event ≡ CallRemove → (j : ℕ) × Next records i j

@@ -7,4 +7,4 @@ mod pending;
 pub mod record;
 pub mod refusal;
 mod scan;
-mod table;
+pub mod table;

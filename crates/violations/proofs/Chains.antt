@@ -5,8 +5,10 @@ use native.Mathlib.Decide.{decLe, decLt}
 use mathlib.Core.Path.{_≡_, refl}
 use mathlib.Core.Logic.{_⊎_, inl, inr, _↔_, Dec·and, Dec·not}
 use mathlib.Core.List.{List, [], _∷_}
+use lib.ListN.{length}
 use Rattle.reader.proofs.Search.{Lowest, None, lowest}
-use Rattle.history.specs.History.{History, emptyRemove}
+use Rattle.history.specs.History.{History, add, emptyRemove}
+use Rattle.history.specs.Linearization.{placed}
 use Rattle.history.proofs.Deciding.{equivalent?}
 use Rattle.violations.specs.Violations.{Is, RemoveOf, Gap, Reaches, removed, never, Covers, Covered, AllCovered, Furthest, Chain, all, link, FalseEmpty}
 use Rattle.violations.proofs.Choosing.{Best, best, greater, Ahead, ahead-at-least, ahead-of-less, ahead}
@@ -183,3 +185,30 @@ uncovered-gap h e = go (lowest Uncovered (λ g. Dec·and (gap? h e g) (Dec·not 
     go : Lowest Uncovered (h .ret e) ⊎ None Uncovered (h .ret e) → AllCovered h e ⊎ UncoveredGap h e
     go (inl s) = inr (record { gap = s .at; lies = s .holds .0; uncovered = s .holds .1 })
     go (inr none) = inl (λ g l. covered-unless (none g (l .until)) l (covered? h g))
+
+-- What is known of an add of a chain for the gaps from g up to a return: it returns before that, and its value reaches beyond g.
+pub record Linked (h : History) (return g a : ℕ) : Type 0 where
+  pub adds : Is h add a
+  pub before : h .ret a < return
+  pub reach : ℕ
+  pub reaches : Reaches h a reach
+  pub beyond : g < reach
+
+pub chain-linked : {h : History} {return g : ℕ} {chain : List ℕ} → Chain h return g chain → (i : ℕ) → i < length chain → Linked h return g (placed chain i)
+chain-linked (all l) i m = absurd (omega arith)
+chain-linked (link {reach = reach} l f rest) zero m = record { adds = f .covers .adds; before = omega (arith, f .covers .from); reach = reach; reaches = f .covers .reaches; beyond = f .covers .until }
+chain-linked (link l f rest) (suc i) m =
+    let later = chain-linked rest i (omega arith) in
+    record { adds = later .adds; before = later .before; reach = later .reach; reaches = later .reaches; beyond = omega (arith, later .beyond, f .covers .until) }
+
+-- the value covering a gap that reaches furthest does not reach further
+furthest-ends : {h : History} {return g a reach : ℕ} → Furthest h a reach g → Linked h return reach a → ⊥
+furthest-ends {g = g} {a} {reach} f later =
+    omega (arith, later .beyond, ahead-at-least (f .furthest a (later .reach) (record { adds = later .adds; reaches = later .reaches; from = f .covers .from; until = omega (arith, later .beyond, f .covers .until) })))
+
+-- so the adds of a chain are different
+pub chain-once : {h : History} {return g : ℕ} {chain : List ℕ} → Chain h return g chain → (i j : ℕ) → i < j → j < length chain → placed chain i ≡ placed chain j → ⊥
+chain-once (all l) i j m n e = omega arith
+chain-once (link l f rest) i zero m n e = omega arith
+chain-once (link l f rest) zero (suc j) m n e = furthest-ends f (rw (← e) at (chain-linked rest j (omega arith)))
+chain-once (link l f rest) (suc i) (suc j) m n e = chain-once rest i j (omega arith) (omega arith) e

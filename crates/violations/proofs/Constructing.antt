@@ -64,13 +64,13 @@ tables-fit {h} {reach} lawful reaches clean gaps uncovered = record {
         omega arith
 
 -- the search has placed no more operations than there are
-few : {h : History} {reach gap : ℕ → ℕ} {order queue : List ℕ} → Searched h reach gap order queue → length order ≤ h .count
-few {h} {order = order} s = different-are-few (placed order) (length order) (h .count) (λ i l. s .due i l .known) (s .once)
+pub search-few : {h : History} {reach gap : ℕ → ℕ} {order queue : List ℕ} → Searched h reach gap order queue → length order ≤ h .count
+search-few {h} {order = order} s = different-are-few (placed order) (length order) (h .count) (λ i l. s .due i l .known) (s .once)
 
 -- The search places operations until nothing is left.
 module _ {h : History} {reach gap : ℕ → ℕ} (lawful : Lawful h) (sound : Sound h reach gap) where
   search-finds : (fuel : ℕ) (order queue : List ℕ) → Searched h reach gap order queue → h .count < length order + fuel → (found : List ℕ) × JudgedLinearization h found
-  search-finds zero order queue s enough = absurd (omega (arith, few s))
+  search-finds zero order queue s enough = absurd (omega (arith, search-few s))
   search-finds (suc fuel) order queue s enough = go (lowest (Left h order) (left? h order) (h .count)) (search-finds fuel)
     where
       go : Lowest (Left h order) (h .count) ⊎ None (Left h order) (h .count)

@@ -9,7 +9,7 @@ use Rattle.history.specs.History.{History, Lawful}
 use Rattle.history.specs.Linearization.{Linearization}
 use Rattle.history.specs.Sheet.{orderVerdict}
 use Rattle.violations.specs.Violations.{NoViolation}
-use Rattle.violations.specs.Verdict.{JudgedLinearization, Verdict}
+use Rattle.violations.specs.Verdict.{FirstViolation, JudgedLinearization, Verdict}
 use Rattle.violations.proofs.Occurrences.{occurs-numbered}
 -- "The lowest number that occurs is reported. Among its occurrences the lowest list": there is such an answer where a pattern
 -- occurs, and two answers that meet this are equal.
@@ -20,6 +20,10 @@ pub use Rattle.violations.proofs.Occurrences.{occurs-numbered, occurs-k
 pub use Rattle.violations.proofs.Chains.{chained-exactly, chain-one}
 -- A legal order rules every pattern out, and gives each empty remove a witness gap.
 pub use Rattle.violations.proofs.Excluding.{Witness, witness-gap, excluded}
+-- A verdict lists at most 682 operations, if there are at most 1,024 records.
+pub use Rattle.violations.proofs.Lengths.{ReturnsApart, listed-at-most}
+-- Their numbers are below 1,024, and the verdict byte is below 10.
+pub use Rattle.violations.proofs.Bounds.{verdict-known, verdict-small}
 -- The search for an order: it starts, may place whatever is placeable, goes on while something is left, and ends with a legal
 -- order that lists an open add exactly if its value was removed; and which tables serve it.
 pub use Rattle.violations.proofs.Placing.{search-starts, search-places, search-ends}
@@ -30,6 +34,9 @@ pub use Rattle.violations.proofs.Filtering.{filter, part-linearization}
 pub use Rattle.violations.proofs.Corresponding.{part-violations}
 pub use Rattle.violations.proofs.Parts.{part-covered, part-keeps, part-verdict}
 pub use Rattle.violations.proofs.Alike.{alike-sym, alike-part, alike-verdict}
+-- Histories that agree on their operations are lawful together and have the same verdicts. The orders of one history as the judge
+-- lists them are equally long.
+pub use Rattle.violations.proofs.Agreeing.{agree-lawful, agree-verdict, judged-length}
 
 module _ {h : History} (lawful : Lawful h) where
   -- A legal order exists exactly if no pattern occurs.
@@ -50,6 +57,11 @@ module _ {h : History} (lawful : Lawful h) where
   verdict-one (Verdict.linearization x) (Verdict.violation y) = absurd (excluded lawful (x .legal) (y .occurs))
   verdict-one (Verdict.violation x) (Verdict.linearization y) = absurd (excluded lawful (y .legal) (x .occurs))
   verdict-one (Verdict.violation x) (Verdict.violation y) = let (number, list) = first-violation-one x y in (number, λ violation. list)
+
+-- Any other verdict byte than 0 is that of a pattern.
+pub pattern-of : {h : History} {byte : ℕ} {listed : List ℕ} → Verdict h byte listed → (byte ≡ orderVerdict → ⊥) → FirstViolation h byte listed
+pattern-of (Verdict.linearization x) n = absurd (n refl)
+pattern-of (Verdict.violation x) n = x
 
 -- The verdict byte 0 is that of an order.
 pub zero-is-linearization : {h : History} {byte : ℕ} {listed : List ℕ} → Verdict h byte listed → byte ≡ orderVerdict → JudgedLinearization h listed

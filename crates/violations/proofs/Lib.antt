@@ -1,4 +1,6 @@
+pub mod Agreeing
 pub mod Alike
+pub mod Bounds
 pub mod Chains
 pub mod Choosing
 pub mod Constructing
@@ -8,6 +10,7 @@ pub mod Examples
 pub mod Excluding
 pub mod Filtering
 pub mod Laws
+pub mod Lengths
 pub mod Lists
 pub mod Lowest
 pub mod Occurrences

@@ -5,7 +5,13 @@ ghost use mathlib.Core.Path.{_≡_};
 ghost use Prim.Native.Nat.{_<_};
 ghost use Rattle.reader.specs.Log.{readLog, checked};
 ghost use Rattle.replay.specs.Replay.{replayed};
-ghost use Rattle.yauponroof.specs.Answer.{refusalUnit, refusal, checkAnswer, replayAnswer};
+ghost use Rattle.projection.specs.Outcome.{excerptAnswer, excerptLeaves, narrowAnswer, narrowLeaves};
+ghost use Rattle.yauponroof.specs.Answer.{refusalUnit, refusal, checkAnswer, replayAnswer, JudgeAnswers, projectionAnswer, indexOf};
+use judge::judge::Verdict;
+use judge::judge::judge;
+use projection::excerpt::excerpt;
+use projection::narrow::narrow;
+use projection::write::Projected;
 use reader::log::Checked;
 use reader::log::check;
 use replay::replay::Replayed;
@@ -46,4 +52,48 @@ pub extern "C" fn yr_replay(log: &[u8], sheet: &[u8]) -> u64
         Replayed::No => 0,
         Replayed::Refused { number, index } => refuse(number, index),
     }
+}
+
+// The bytes of a sheet before the operations that it lists.
+const SHEET_HEADER: usize = 4;
+
+// Judges a log: writes the sheet of its verdict. Returns how many bytes were written, or a refusal from 1 to 10 or 24.
+#[no_mangle]
+pub extern "C" fn yr_judge(log: &[u8], sheet: &mut [u8]) -> u64
+    ensures { λ r. ⌜ JudgeAnswers (readLog (now (log .entry))) (now (sheet .entry)) r (now (sheet .exit)) ⌝ }
+{
+    match judge(log, sheet) {
+        Verdict::Order(listed) => (SHEET_HEADER + 2 * listed) as u64,
+        Verdict::Pattern { number: _, listed } => (SHEET_HEADER + 2 * listed) as u64,
+        Verdict::Refused { number, index } => refuse(number, index),
+    }
+}
+
+// A log that was written, or a refusal, as an answer.
+fn projected(p: Projected) -> u64
+    requires { ⌜ indexOf p < refusalUnit ⌝ }
+    ensures { λ r. ⌜ r ≡ projectionAnswer p ⌝ }
+{
+    match p {
+        Projected::Written(bytes) => bytes as u64,
+        Projected::Refused { number, index } => refuse(number, index),
+    }
+}
+
+// Writes the excerpt of a log whose verdict is a pattern. Returns how many bytes were written, or a refusal from 1 to 10, 23 or 24.
+#[no_mangle]
+pub extern "C" fn yr_excerpt(log: &[u8], out: &mut [u8]) -> u64
+    ensures { λ r. ⌜ (r ≡ projectionAnswer (excerptAnswer (readLog (now (log .entry))) (now (out .entry))))
+        × (now (out .exit) ≡ excerptLeaves (readLog (now (log .entry))) (now (out .entry))) ⌝ }
+{
+    projected(excerpt(log, out))
+}
+
+// Writes the log of the operations on these values. Returns how many bytes were written, or a refusal from 1 to 10 or 24.
+#[no_mangle]
+pub extern "C" fn yr_narrow(log: &[u8], values: &[u32], out: &mut [u8]) -> u64
+    ensures { λ r. ⌜ (r ≡ projectionAnswer (narrowAnswer (readLog (now (log .entry))) (now (values .entry)) (now (out .entry))))
+        × (now (out .exit) ≡ narrowLeaves (readLog (now (log .entry))) (now (values .entry)) (now (out .entry))) ⌝ }
+{
+    projected(narrow(log, values, out))
 }

@@ -4,7 +4,8 @@ use Rattle.replay.proofs.replay.replay.Statement.{statement}
 use Rattle.replay.proofs.replay.replay.Tie as tie
 use mathlib.Core.Path.{sym, _∙_}
 use borrow.Author.Tests.{not-true, not-false}
-use Rattle.replay.proofs.Answering.{log-refused, log-small, sheet-refused, order-legal, order-not-legal}
+use Rattle.history.proofs.Tabulating.{log-tabled}
+use Rattle.replay.proofs.Answering.{log-refused, sheet-refused, order-legal, order-not-legal}
 
 tabulate-requires : tie.Need-tabulate-requires
 tabulate-requires c κs = search needs
@@ -19,22 +20,22 @@ is-order-sheet-requires : tie.Need-is-order-sheet-requires
 is-order-sheet-requires c κs = search needs
 
 returns : tie.Need-returns
-returns c = sheet-refused _ _ (c .before .before .before .before .before .tabulate .ensures .0) (c .before .before .before .records .given .1) (sym (c .before .is-order-sheet .ensures) ∙ not-true (c .before .is-order-sheet .result) (c .if1 .taken))
+returns c = sheet-refused (log-tabled (c .before .before .before .before .before .before .before .before .before .args .log .now) (c .before .before .before .before .before .tabulate .ensures .0) (c .before .before .before .records .given .1) _ _ (c .before .before .before .before .before .tabulate .ensures .1)) (c .before .before .before .before .before .before .before .before .before .args .sheet .now) (sym (c .before .is-order-sheet .ensures) ∙ not-true (c .before .is-order-sheet .result) (c .if1 .taken))
 
 is-linearization-requires : tie.Need-is-linearization-requires
-is-linearization-requires c κs = let small = log-small (c .before .before .before .before .before .before .before .before .before .before .args .log .now) (c .before .before .before .before .before .before .before .before .before .before .args .sheet .now) (c .before .before .before .before .before .before .tabulate .ensures .0) (c .before .before .before .before .records .given .1) in
-    (small .0, small .1, sym (c .before .before .is-order-sheet .ensures) ∙ not-false (c .before .before .is-order-sheet .result) (c .before .if1 .left))
+is-linearization-requires c κs = let t = (log-tabled (c .before .before .before .before .before .before .before .before .before .before .args .log .now) (c .before .before .before .before .before .before .tabulate .ensures .0) (c .before .before .before .before .records .given .1) _ _ (c .before .before .before .before .before .before .tabulate .ensures .1)) in
+    (t .few, t .short, sym (c .before .before .is-order-sheet .ensures) ∙ not-false (c .before .before .is-order-sheet .result) (c .before .if1 .left))
 
 returns-2 : tie.Need-returns-2
-returns-2 c = order-legal _ _ (c .before .before .before .before .before .before .before .before .tabulate .ensures .0) (c .before .before .before .before .before .before .records .given .1) (sym (c .before .before .before .before .is-order-sheet .ensures) ∙ not-false (c .before .before .before .before .is-order-sheet .result) (c .before .before .before .if1 .left))
-    _ _ (c .before .before .before .before .before .before .before .before .tabulate .ensures .1) (rw (c .if2 .taken) at (c .before .is-linearization .ensures))
+returns-2 c = order-legal (log-tabled (c .before .before .before .before .before .before .before .before .before .before .before .before .args .log .now) (c .before .before .before .before .before .before .before .before .tabulate .ensures .0) (c .before .before .before .before .before .before .records .given .1) _ _ (c .before .before .before .before .before .before .before .before .tabulate .ensures .1)) (c .before .before .before .before .before .before .before .before .before .before .before .before .args .sheet .now)
+    (sym (c .before .before .before .before .is-order-sheet .ensures) ∙ not-false (c .before .before .before .before .is-order-sheet .result) (c .before .before .before .if1 .left)) (rw (c .if2 .taken) at (c .before .is-linearization .ensures))
 
 returns-3 : tie.Need-returns-3
 returns-3 c = log-refused _ _ (c .before .before .before .tabulate .ensures .0) (c .before .number .given .1)
 
 returns-4 : tie.Need-returns-4
-returns-4 c = order-not-legal _ _ (c .before .before .before .before .before .before .before .before .tabulate .ensures .0) (c .before .before .before .before .before .before .records .given .1) (sym (c .before .before .before .before .is-order-sheet .ensures) ∙ not-false (c .before .before .before .before .is-order-sheet .result) (c .before .before .before .if1 .left))
-    _ _ (c .before .before .before .before .before .before .before .before .tabulate .ensures .1) (rw (c .if2 .left) at (c .before .is-linearization .ensures))
+returns-4 c = order-not-legal (log-tabled (c .before .before .before .before .before .before .before .before .before .before .before .before .args .log .now) (c .before .before .before .before .before .before .before .before .tabulate .ensures .0) (c .before .before .before .before .before .before .records .given .1) _ _ (c .before .before .before .before .before .before .before .before .tabulate .ensures .1)) (c .before .before .before .before .before .before .before .before .before .before .before .before .args .sheet .now)
+    (sym (c .before .before .before .before .is-order-sheet .ensures) ∙ not-false (c .before .before .before .before .is-order-sheet .result) (c .before .before .before .if1 .left)) (rw (c .if2 .left) at (c .before .is-linearization .ensures))
 
 pub replay-spec : {M : Type 1} → statement M
 replay-spec =

@@ -1,0 +1,54 @@
+-- Every readable log has an archive: its verdict fits on a sheet that is as long as it, and the excerpt into a buffer that is as long as it.
+use Prim.Native.Nat.{ℕ}
+use native.Mathlib.Omega.{arith}
+use mathlib.Core.Path.{_≡_, refl}
+use mathlib.Core.Logic.{_⊎_, inl, inr}
+use mathlib.Core.List.{List}
+use lib.ListN.{length}
+use borrow.Author.Tests.{le-ltb, ne-eqb}
+use Rattle.reader.specs.Buffer.{written}
+use Rattle.reader.specs.Log.{readable, readLog, encodeLog}
+use Rattle.reader.specs.declared.record.Record.{Record}
+use Rattle.reader.proofs.Laws.{readable-log}
+use Rattle.history.specs.Operations.{historyOf}
+use Rattle.history.specs.Sheet.{orderVerdict, sheetOf}
+use Rattle.history.proofs.Laws.{history-lawful}
+use Rattle.violations.specs.Violations.{NoViolation}
+use Rattle.violations.specs.Verdict as violations
+use Rattle.violations.proofs.Laws.{SomeViolation, first-violation, first-violation-one, occurs-numbered, verdict}
+use Rattle.judge.specs.Judge.{verdictOf, Delivers, Judges, judged}
+use Rattle.judge.specs.declared.judge.Verdict.the-variants.{Pattern}
+use Rattle.projection.specs.Projection.{excerpted}
+use Rattle.projection.specs.Outcome.{excerptAnswerOf, excerptAnswer}
+use Rattle.projection.specs.declared.write.Projected.the-variants.{Written}
+use Rattle.archive.specs.Archive.{Archive, with-order, with-pattern}
+
+module _ (log : List ℕ) (records : List Record) (reads : readLog log ≡ readable records) where
+  -- a verdict is judged into a sheet that is as long as its own
+  judges-own : {byte : ℕ} {listed : List ℕ} → violations.Verdict (historyOf records) byte listed → (left : List ℕ) × Judges (readLog log) (sheetOf byte listed) (verdictOf byte (length listed)) left
+  judges-own {byte} {listed} v =
+      let fits = le-ltb (length (sheetOf byte listed)) (length (sheetOf byte listed)) (omega arith) in
+      let delivers : Delivers byte listed (sheetOf byte listed) (verdictOf byte (length listed)) (written (sheetOf byte listed) (sheetOf byte listed)) =
+      record { answers = rw fits refl; leaves = refl } in
+      let own : Judges (readable records) (sheetOf byte listed) (verdictOf byte (length listed)) (written (sheetOf byte listed) (sheetOf byte listed)) =
+      judged (record { byte = byte; listed = listed; verdict = v; delivers = delivers }) in
+      (written (sheetOf byte listed) (sheetOf byte listed), rw reads own)
+
+  -- the excerpt fits into a buffer that is as long as it
+  excerpt-own : {n : ℕ} {listed : List ℕ} → violations.FirstViolation (historyOf records) n listed → (found : SomeViolation (historyOf records) ⊎ NoViolation (historyOf records))
+      → excerptAnswerOf records found (encodeLog (excerpted records listed)) ≡ Written (length (encodeLog (excerpted records listed)))
+  excerpt-own {n} {listed} first (inr clean) = absurd (clean n listed (first .occurs))
+  excerpt-own {n} {listed} first (inl (m, other, found)) =
+      let bytes = encodeLog (excerpted records other) in
+      rw (first-violation-one first found .1, le-ltb (length bytes) (length bytes) (omega arith)) refl
+
+  pub archive-exists : (sheet : List ℕ) × (excerpt : List ℕ) × Archive log sheet excerpt
+  archive-exists = let (byte, listed, v) = verdict (history-lawful (readable-log log records reads)) in go v
+    where
+      go : {byte : ℕ} {listed : List ℕ} → violations.Verdict (historyOf records) byte listed → (sheet : List ℕ) × (excerpt : List ℕ) × Archive log sheet excerpt
+      go (violations.Verdict.linearization x) = let (left, j) = judges-own (violations.Verdict.linearization x) in (_, _, with-order j)
+      go {byte} {listed} (violations.Verdict.violation x) =
+          let (left, j) = judges-own (violations.Verdict.violation x) in
+          let named : verdictOf byte (length listed) ≡ Pattern byte (length listed) = rw (ne-eqb byte orderVerdict (λ e. omega (arith, occurs-numbered (x .occurs)))) refl in
+          let wrote : excerptAnswer (readLog log) (encodeLog (excerpted records listed)) ≡ Written (length (encodeLog (excerpted records listed))) = rw reads (excerpt-own x (first-violation (historyOf records))) in
+          (_, _, with-pattern (rw named at j) (encodeLog (excerpted records listed)) wrote)

@@ -1,0 +1,88 @@
+-- Demand 3, at the level of bytes, for every readable log: the archive holds a legal order of the log exactly when one exists, and otherwise the
+-- pattern with the operations that document 01 picks; the excerpt, judged by itself, gives the same number; neighbouring calls, or returns, that
+-- trade places leave the verdict as it is.
+use Prim.Native.Nat.{ℕ}
+use native.Mathlib.Decide.{ℕ-discrete}
+use mathlib.Core.Path.{_≡_, sym, ap, _∙_}
+use mathlib.Core.Logic.{_↔_}
+use mathlib.Core.List.{List}
+use Rattle.reader.specs.Log.{readable, readLog, encodeLog}
+use Rattle.reader.specs.Readable.{Bytes}
+use Rattle.reader.specs.declared.record.Record.{Record}
+use Rattle.reader.proofs.Laws.{readable-log}
+use Rattle.history.specs.Linearization.{Linearization}
+use Rattle.history.specs.Operations.{historyOf}
+use Rattle.history.specs.Sheet.{orderVerdict, sheetOf, listedOn}
+use Rattle.history.proofs.Laws.{history-lawful}
+use Rattle.violations.specs.Verdict.{FirstViolation, JudgedLinearization, Verdict}
+use Rattle.violations.proofs.Laws.{excluded, zero-is-linearization, pattern-of}
+use Rattle.replay.specs.Replay.{replayed}
+use Rattle.replay.specs.declared.replay.Replayed.the-variants.{Yes}
+use Rattle.replay.proofs.Laws.{linearization-replays}
+use Rattle.projection.specs.Projection.{excerpted}
+use Rattle.projection.proofs.Laws.{excerpt-verdict}
+use Rattle.archive.specs.Archive.{verdictByte, Archive}
+use Rattle.archive.specs.Trade.{traded, Traded}
+use Rattle.archive.proofs.Contents.{archive-contents, archive-excerpt}
+use Rattle.archive.proofs.Traded.{TradedBytes, traded-bytes, traded-readable, traded-verdict}
+-- Every readable log has an archive.
+pub use Rattle.archive.proofs.Existing.{archive-exists}
+
+-- What the sheet of an archive holds: the verdict of the log's history, in the form that document 01 gives, and nothing else.
+pub verdict-is : {log sheet excerpt : List ℕ} {records : List Record} → readLog log ≡ readable records → Archive log sheet excerpt
+    → Verdict (historyOf records) (verdictByte sheet) (listedOn sheet) × (sheet ≡ sheetOf (verdictByte sheet) (listedOn sheet))
+verdict-is {records = records} reads archive =
+    let c = archive-contents archive in
+    let read : readable (c .records) ≡ readable records = sym (c .reads) ∙ reads in
+    let same : c .records ≡ records = cc in
+    (rw same at (c .verdict), c .whole)
+
+module _ {log : List ℕ} {records : List Record} (reads : readLog log ≡ readable records) {sheet excerpt : List ℕ} (archive : Archive log sheet excerpt) where
+  -- "For every readable log the archive holds a legal order exactly when one exists":
+  pub order-exactly : (verdictByte sheet ≡ orderVerdict) ↔ ((order : List ℕ) × Linearization (historyOf records) order)
+  order-exactly = (λ e. (listedOn sheet, zero-is-linearization (verdict-is reads archive .0) e .legal), λ found. unless-pattern (found .0) (found .1) (ℕ-discrete (verdictByte sheet) orderVerdict))
+    where
+      unless-pattern : (order : List ℕ) → Linearization (historyOf records) order → Dec (verdictByte sheet ≡ orderVerdict) → verdictByte sheet ≡ orderVerdict
+      unless-pattern order legal (yes e) = e
+      unless-pattern order legal (no n) = absurd (excluded (history-lawful (readable-log log records reads)) legal (pattern-of (verdict-is reads archive .0) n .occurs))
+
+  -- the order that it holds is legal, lists an open add exactly if its value was removed, and replay says yes to its sheet;
+  pub order-is-legal : verdictByte sheet ≡ orderVerdict → JudgedLinearization (historyOf records) (listedOn sheet)
+  order-is-legal e = zero-is-linearization (verdict-is reads archive .0) e
+
+  pub order-replays : verdictByte sheet ≡ orderVerdict → replayed (readLog log) sheet ≡ Yes
+  order-replays e =
+      ap (replayed (readLog log)) (verdict-is reads archive .1 ∙ ap (λ byte. sheetOf byte (listedOn sheet)) e)
+      ∙ linearization-replays log records reads (listedOn sheet) (order-is-legal e .legal) .1
+
+  -- "otherwise the pattern with the operations that document 01 picks": the lowest number that occurs, with its lowest list.
+  pub pattern-is-first : (verdictByte sheet ≡ orderVerdict → ⊥) → FirstViolation (historyOf records) (verdictByte sheet) (listedOn sheet)
+  pattern-is-first n = pattern-of (verdict-is reads archive .0) n
+
+  -- "the excerpt, judged by itself, gives the same number": it is a readable log, and every archive of it has the same verdict byte.
+  module _ (bytes : Bytes log) (pattern : verdictByte sheet ≡ orderVerdict → ⊥) where
+    abbrev kept : List Record
+    kept = excerpted records (listedOn sheet)
+
+    -- the excerpt's bytes are those of all records of all operations on the values of the listed ones, and of the listed empty remove
+    pub excerpt-bytes : excerpt ≡ encodeLog kept
+    excerpt-bytes = archive-excerpt archive records reads (pattern-is-first pattern) pattern
+
+    pub excerpt-readable : readLog excerpt ≡ readable kept
+    excerpt-readable = ap readLog excerpt-bytes ∙ excerpt-verdict log records reads bytes (pattern-is-first pattern) .0
+
+    pub excerpt-same : {sheet' excerpt' : List ℕ} → Archive excerpt sheet' excerpt' → verdictByte sheet' ≡ verdictByte sheet
+    excerpt-same {sheet'} again = excerpt-verdict log records reads bytes (pattern-is-first pattern) .1 (verdictByte sheet') (listedOn sheet') (verdict-is excerpt-readable again .0)
+
+-- "neighbouring calls, or returns, that trade places leave the verdict as it is": whichever two neighbouring records, both calls or both returns, trade
+-- places while each place keeps its tick, the traded log is readable, and the verdict byte is the same.
+module _ {log log' : List ℕ} (bytes : Bytes log) (trade : Traded log log') where
+  -- no other byte changes
+  pub trade-bytes : TradedBytes log log'
+  trade-bytes = traded-bytes bytes trade
+
+  pub trade-readable : readLog log' ≡ readable (traded (trade .place) (trade .records))
+  trade-readable = traded-readable bytes trade
+
+  pub trade-same : {sheet sheet' excerpt excerpt' : List ℕ} → Archive log sheet excerpt → Archive log' sheet' excerpt' → verdictByte sheet ≡ verdictByte sheet'
+  trade-same before after = traded-verdict bytes trade (verdict-is (trade .reads) before .0) (verdict-is trade-readable after .0)

@@ -1,0 +1,7 @@
+pub mod Alike
+pub mod Contents
+pub mod Exchange
+pub mod Existing
+pub mod Laws
+pub mod Trade
+pub mod Traded

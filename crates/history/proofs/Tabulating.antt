@@ -1,0 +1,43 @@
+-- What is known of a log whose operations were tabulated: its records, and that the table agrees with their history.
+use Prim.Native.Nat.{ℕ, _≤_}
+use native.Mathlib.Omega.{arith}
+use mathlib.Core.Path.{_≡_, sym, _∙_}
+use mathlib.Core.List.{List}
+use lib.ListN.{length}
+use Rattle.reader.specs.Log.{maxRecords, readable, readLog, checked, operations}
+use Rattle.reader.specs.Readable.{Within}
+use Rattle.reader.specs.declared.record.Record.{Record}
+use Rattle.reader.specs.declared.log.Checked.{Checked}
+use Rattle.reader.specs.declared.log.Checked.the-variants.{Readable}
+use Rattle.reader.proofs.Laws.{within, checked-readable, few-operations}
+use Rattle.history.specs.History.{History}
+use Rattle.history.specs.Operations.{historyOf}
+use Rattle.history.specs.Table.{tabled, Agree, Tabulated}
+
+pub record Tabled (log : List ℕ) (count end : ℕ) (table : List ℕ) : Type 0 where
+  pub records : List Record
+  pub reads : readLog log ≡ readable records
+  pub counted : operations records ≡ count
+  pub ended : length records ≡ end
+  pub few : count ≤ maxRecords
+  pub short : end ≤ maxRecords
+  pub agree : Agree (tabled count end table) (historyOf records)
+
+tabled-same : (table : List ℕ) (h : History) {count m end n : ℕ} → count ≡ m → end ≡ n → Agree (tabled count end table) h → Agree (tabled m n table) h
+tabled-same table h o l agree = rw (← o, ← l) agree
+
+-- a log that is checked and found readable is tabulated
+pub log-tabled : (log : List ℕ) {answer : Checked} {end count : ℕ} → answer ≡ checked (readLog log) → answer ≡ Readable end count → (before table : List ℕ) → Tabulated (readLog log) before table → Tabled log count end table
+log-tabled log {end = end} {count = count} e f before table tabulated =
+    let (records, reads, ended, counted) = checked-readable (readLog log) (sym e ∙ f) in
+    let small : Within (readable records) = rw reads at (within log) in
+    let held : Tabulated (readable records) before table = rw reads at tabulated in
+    record {
+      records = records;
+      reads = reads;
+      counted = counted;
+      ended = ended;
+      few = omega (arith, few-operations records);
+      short = omega arith;
+      agree = tabled-same table (historyOf records) counted ended (held .agree);
+    }

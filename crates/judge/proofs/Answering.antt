@@ -1,0 +1,64 @@
+-- From what is found for the table to the answer for the log.
+use Prim.Native.Nat.{ℕ, _+_, _*_, _≤_, _<_}
+use native.Mathlib.Omega.{arith}
+use mathlib.Core.Path.{_≡_, refl, sym, _∙_}
+use mathlib.Core.List.{List}
+use lib.ListN.{length, take}
+use lib.Seq.{length-take-le}
+use borrow.Author.Tests.{lt-ltb, le-ltb, eq-eqb, ne-eqb}
+use Rattle.reader.specs.Log.{readLog, checked}
+use Rattle.reader.specs.Buffer.{bufferTooShort, written}
+use Rattle.reader.specs.declared.log.Checked.{Checked}
+use Rattle.reader.specs.declared.log.Checked.the-variants as check
+use Rattle.reader.proofs.Laws.{readable-log, checked-refused}
+use Rattle.history.specs.History.{History}
+use Rattle.history.specs.Sheet.{orderVerdict, sheetOf}
+use Rattle.history.specs.Table.{tabled}
+use Rattle.history.proofs.Agreeing.{agree-sym}
+use Rattle.history.proofs.Laws.{history-lawful}
+use Rattle.history.proofs.Sheets.{sheet-length}
+use Rattle.history.proofs.Tabulating.{Tabled}
+use Rattle.violations.proofs.Laws.{verdict-small, agree-lawful, agree-verdict}
+use Rattle.judge.specs.Held.{Held}
+use Rattle.judge.specs.Decision.{Decided}
+use Rattle.judge.specs.Judge.{Delivers, Judges, judged, turned-down}
+use Rattle.judge.specs.declared.judge.Verdict.{Verdict}
+use Rattle.judge.specs.declared.judge.Verdict.the-variants.{Order, Pattern, Refused}
+
+-- the history in the table is that of a readable log
+pub tabled-held : {log : List ℕ} {count end : ℕ} {table : List ℕ} → Tabled log count end table → Held (tabled count end table)
+tabled-held {log} t = record { lawful = agree-lawful (agree-sym (t .agree)) (history-lawful (readable-log log (t .records) (t .reads))); few = t .few; short = t .short }
+
+-- a verdict has a byte
+pub decided-byte : {h : History} {byte k : ℕ} {list : List ℕ} → Decided h byte k list → byte < 256
+decided-byte decided = omega (arith, verdict-small (decided .verdict))
+
+-- what is found is delivered
+module _ (byte : ℕ) (list : List ℕ) (k : ℕ) (within : k ≤ length list) (sheet : List ℕ) where
+  listed-long : length (take k list) ≡ k
+  listed-long = length-take-le k list within
+
+  pub delivers-nothing : length sheet < 4 + 2 * k → Delivers byte (take k list) sheet (Refused bufferTooShort 0) sheet
+  delivers-nothing short =
+      let lacks = lt-ltb (length sheet) (length (sheetOf byte (take k list))) (omega (arith, sheet-length byte (take k list), listed-long)) in
+      record { answers = rw lacks refl; leaves = rw lacks refl }
+
+  module _ (room : 4 + 2 * k ≤ length sheet) {sheet' : List ℕ} (wrote : sheet' ≡ written (sheetOf byte (take k list)) sheet) where
+    pub delivers-order : byte ≡ orderVerdict → Delivers byte (take k list) sheet (Order k) sheet'
+    delivers-order e =
+        let fits = le-ltb (length sheet) (length (sheetOf byte (take k list))) (omega (arith, sheet-length byte (take k list), listed-long)) in
+        record { answers = rw (fits, eq-eqb byte orderVerdict e, listed-long) refl; leaves = wrote }
+
+    pub delivers-pattern : (byte ≡ orderVerdict → ⊥) → Delivers byte (take k list) sheet (Pattern byte k) sheet'
+    delivers-pattern n =
+        let fits = le-ltb (length sheet) (length (sheetOf byte (take k list))) (omega (arith, sheet-length byte (take k list), listed-long)) in
+        record { answers = rw (fits, ne-eqb byte orderVerdict n, listed-long) refl; leaves = wrote }
+
+-- a readable log is judged
+pub log-judged : {log : List ℕ} {count end byte k : ℕ} {table list sheet sheet' : List ℕ} {answer : Verdict} → Tabled log count end table → Decided (tabled count end table) byte k list
+    → Delivers byte (take k list) sheet answer sheet' → Judges (readLog log) sheet answer sheet'
+log-judged {byte = byte} {k = k} {list = list} t decided delivers = rw (t .reads) (judged (record { byte = byte; listed = take k list; verdict = agree-verdict (t .agree) (decided .verdict); delivers = delivers }))
+
+-- any other is refused
+pub log-refused : (log sheet : List ℕ) {answer : Checked} {number index : ℕ} → answer ≡ checked (readLog log) → answer ≡ check.Refused number index → Judges (readLog log) sheet (Refused number index) sheet
+log-refused log sheet e f = rw (checked-refused (readLog log) (sym e ∙ f)) turned-down

@@ -1,0 +1,9 @@
+pub mod Judge
+pub mod Held
+pub mod Matching
+pub mod Gaps
+pub mod Bounds
+pub mod Blocked
+pub mod Chains
+pub mod Searching
+pub mod Decision

@@ -1,0 +1,67 @@
+// Judging: a log goes in, and a verdict comes out, whose operations stand on the lent sheet. What is right is said in specs/Judge.antt.
+ghost use mathlib.Core.Path.{_≡_};
+ghost use Prim.Native.Nat.{_≤_, _<_};
+ghost use lib.ListN.{length, take};
+ghost use Rattle.reader.specs.Log.{maxRecords, readLog};
+ghost use Rattle.judge.specs.Judge.{Judges, Delivers};
+use crate::decide::Finding;
+use crate::decide::ORDER;
+use crate::decide::decide;
+use crate::sheet::HEADER;
+use crate::sheet::write_sheet;
+use crate::values::Numbers;
+use history::operations::TABLE;
+use history::operations::tabulate;
+use reader::format::MAX_RECORDS;
+use reader::log::Checked;
+
+// An order, with its length; a pattern, with its number and how many operations it lists; or a refusal, of the log under 1 to 10 or of the sheet
+// under 24. The operations stand on the sheet.
+pub enum Verdict {
+    Order(usize),
+    Pattern { number: u32, listed: usize },
+    Refused { number: u32, index: usize },
+}
+
+pub const BUFFER_TOO_SHORT: u32 = 24;
+
+// Writes the sheet of what was found, if there is room for it.
+fn deliver(f: Finding, list: &Numbers, sheet: &mut [u8]) -> Verdict
+    requires { ⌜ (f .verdict < 256) × (f .listed ≤ maxRecords) × (length (now list) ≡ maxRecords) ⌝ }
+    ensures { λ v. ⌜ Delivers (f .verdict) (take (f .listed) (now (list .entry))) (now (sheet .entry)) v (now (sheet .exit)) ⌝ }
+{
+    let k = f.listed;
+    if sheet.len() < HEADER + 2 * k {
+        return Verdict::Refused {
+            number: BUFFER_TOO_SHORT,
+            index: 0,
+        };
+    }
+    let verdict = f.verdict;
+    write_sheet(verdict, list, k, sheet);
+    if verdict == ORDER {
+        return Verdict::Order(k);
+    }
+    Verdict::Pattern {
+        number: verdict,
+        listed: k,
+    }
+}
+
+// Judges a log: writes the sheet of its verdict.
+pub fn judge(log: &[u8], sheet: &mut [u8]) -> Verdict
+    ensures { λ v. ⌜ Judges (readLog (now (log .entry))) (now (sheet .entry)) v (now (sheet .exit)) ⌝ }
+{
+    let mut table = [0u32; TABLE];
+    match tabulate(log, &mut table) {
+        Checked::Refused { number, index } => Verdict::Refused { number, index },
+        Checked::Readable {
+            records,
+            operations,
+        } => {
+            let mut list = [0u32; MAX_RECORDS];
+            let found = decide(&table, operations, records, &mut list);
+            deliver(found, &list, sheet)
+        }
+    }
+}

@@ -1,0 +1,72 @@
+-- `put_listed` meets its contract. The invariant: the first i operations are put, and the buffer is as long as it was.
+use Prim.Native.Nat.{_-_, _≤_}
+use native.Mathlib.Omega.{arith}
+use mathlib.Core.Path.{_≡_, refl, ap}
+use lib.ListN.{length}
+use Rattle.judge_cli.specs.Writing.{Puts, listing}
+use Rattle.judge_cli.proofs.Listing.{listing-none, listing-more, listing-room}
+use Rattle.judge_cli.proofs.Putting.{puts-nothing, puts-same, puts-more}
+use Rattle.judge_cli.proofs.report.put_listed.Statement.{statement}
+use Rattle.judge_cli.proofs.report.put_listed.Tie as tie
+
+abbrev Inv-loop : tie.InvT-loop
+Inv-loop text₀ at sheet k next₀ i₀ text next i = (i ≤ k) × (length text ≡ length text₀) × Puts (listing sheet i) at text₀ next text
+
+abbrev μ-loop : tie.MeasureT-loop
+μ-loop text₀ at sheet k next₀ i₀ text next i = k - i
+
+loop-holds : tie.Need-loop-holds Inv-loop μ-loop
+loop-holds c = let a = c .before .before .args in (omega arith, refl, puts-same (listing-none (a .sheet .now)) (puts-nothing (a .text .now) (a .at)))
+
+mul-be16 : tie.Need-mul-be16 Inv-loop μ-loop
+mul-be16 c = omega arith
+
+add-be16 : tie.Need-add-be16 Inv-loop μ-loop
+add-be16 c = omega arith
+
+be16-requires : tie.Need-be16-requires Inv-loop μ-loop
+be16-requires c κs = omega arith
+
+cast-put-field : tie.Need-cast-put-field Inv-loop μ-loop
+cast-put-field c = omega arith
+
+put-field-requires : tie.Need-put-field-requires Inv-loop μ-loop
+put-field-requires c κs = let l = c .before .before .before .loop in let a = c .before .before .before .before .before .before .args in omega (arith, l .inv .1, l .inv .2 .ends, listing-room (a .sheet .now) (l .i) (c .be16 .ensures) (a .k) (omega arith))
+
+add-i : tie.Need-add-i Inv-loop μ-loop
+add-i c = omega arith
+
+loop-less : tie.Need-loop-less Inv-loop μ-loop
+loop-less c = omega arith
+
+loop-again : tie.Need-loop-again Inv-loop μ-loop
+loop-again c =
+    let put = c .before .before in
+    let read = put .before in
+    let l = read .before .before .before .loop in
+    let a = read .before .before .before .before .before .before .args in
+    (omega arith, omega arith, puts-same (listing-more (a .sheet .now) (l .i) (read .be16 .ensures)) (puts-more (l .inv .2) (put .put-field .ensures) (omega arith)))
+
+same-length : tie.Need-same-length Inv-loop μ-loop
+same-length c = c .before .loop .inv .1
+
+returns : tie.Need-returns Inv-loop μ-loop
+returns c = let i = c .before .loop .i in let a = c .before .before .before .before .args in puts-same (ap (listing (a .sheet .now)) {x = a .k} {y = i} (omega arith)) (c .before .loop .inv .2)
+
+pub put-listed-spec : {M : Type 1} → statement M
+put-listed-spec =
+    tie.close
+    (tie.spec
+    Inv-loop
+    μ-loop
+    loop-holds
+    mul-be16
+    add-be16
+    be16-requires
+    cast-put-field
+    put-field-requires
+    add-i
+    loop-less
+    loop-again
+    same-length
+    returns)

@@ -1,0 +1,64 @@
+// Text in ASCII, written into a lent buffer from a position on. Each function answers the position behind what it wrote. What is right is said in
+// specs/Text.antt.
+ghost use mathlib.Core.List.{[], _∷_};
+ghost use Prim.Native.Nat.{_+_, _≤_, _<_};
+ghost use lib.ListN.{length};
+ghost use Rattle.judge_cli.specs.Text.{space, lineFeed, decimal};
+ghost use Rattle.judge_cli.specs.Writing.{Puts};
+
+const SPACE: u8 = b' ';
+
+const LINE_FEED: u8 = b'\n';
+
+const ZERO: u8 = b'0';
+
+// Writes a byte.
+fn put_byte(text: &mut [u8], at: usize, byte: u8) -> usize
+    requires { ⌜ at < length (now text) ⌝ }
+    ensures { λ next. ⌜ Puts (byte ∷ []) at (now (text .entry)) next (now (text .exit)) ⌝ }
+{
+    text[at] = byte;
+    at + 1
+}
+
+// Writes bytes.
+pub fn put_bytes(text: &mut [u8], at: usize, bytes: &[u8]) -> usize
+    requires { ⌜ at + length (now bytes) ≤ length (now text) ⌝ }
+    ensures { λ next. ⌜ Puts (now (bytes .entry)) at (now (text .entry)) next (now (text .exit)) ⌝ }
+{
+    let mut i = 0;
+    while i < bytes.len() {
+        text[at + i] = bytes[i];
+        i += 1;
+    }
+    at + i
+}
+
+// Writes a number in decimal.
+fn put_number(text: &mut [u8], at: usize, x: usize) -> usize
+    requires { ⌜ at + length (decimal x) ≤ length (now text) ⌝ }
+    ensures { λ next. ⌜ Puts (decimal x) at (now (text .entry)) next (now (text .exit)) ⌝ }
+{
+    if x < 10 {
+        return put_byte(text, at, ZERO + x as u8);
+    }
+    let last = put_number(text, at, x / 10);
+    put_byte(text, last, ZERO + (x % 10) as u8)
+}
+
+// Writes a space and a number.
+pub fn put_field(text: &mut [u8], at: usize, x: usize) -> usize
+    requires { ⌜ at + length (space ∷ decimal x) ≤ length (now text) ⌝ }
+    ensures { λ next. ⌜ Puts (space ∷ decimal x) at (now (text .entry)) next (now (text .exit)) ⌝ }
+{
+    let start = put_byte(text, at, SPACE);
+    put_number(text, start, x)
+}
+
+// Ends a line.
+pub fn end_line(text: &mut [u8], at: usize) -> usize
+    requires { ⌜ at < length (now text) ⌝ }
+    ensures { λ next. ⌜ Puts (lineFeed ∷ []) at (now (text .entry)) next (now (text .exit)) ⌝ }
+{
+    put_byte(text, at, LINE_FEED)
+}

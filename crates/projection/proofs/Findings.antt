@@ -1,0 +1,116 @@
+-- From what the judge finds to the excerpt.
+use Prim.Native.Nat.{ℕ, zero, suc, _≤_, _<_}
+use native.Mathlib.Omega.{arith}
+use mathlib.Core.Path.{_≡_, refl, sym, ap, _∙_}
+use mathlib.Core.Logic.{_⊎_, inl, inr}
+use mathlib.Core.List.{List, [], _∷_}
+use lib.ListN.{length, getD, take}
+use lib.Seq.{length-take-le}
+use Rattle.reader.specs.Log.{maxRecords, refused, readLog, checked, encodeLog}
+use Rattle.reader.specs.Buffer.{written}
+use Rattle.reader.specs.declared.log.Checked.{Checked}
+use Rattle.reader.specs.declared.log.Checked.the-variants as check
+use Rattle.reader.proofs.Laws.{checked-refused}
+use Rattle.history.specs.Each.{Each}
+use Rattle.history.specs.History.{History, Lawful}
+use Rattle.history.specs.Operations.{historyOf}
+use Rattle.history.specs.Sheet.{orderVerdict}
+use Rattle.history.specs.Table.{tabled, Agree}
+use Rattle.history.proofs.Agreeing.{agree-sym}
+use Rattle.history.proofs.Laws.{history-lawful}
+use Rattle.violations.specs.Violations.{NoViolation}
+use Rattle.violations.specs.Verdict.{FirstViolation, Verdict}
+use Rattle.violations.proofs.Laws.{SomeViolation, first-violation, first-violation-one, occurs-known, excluded, zero-is-linearization, pattern-of, agree-lawful, agree-verdict}
+use Rattle.judge.specs.Held.{Held}
+use Rattle.judge.specs.Decision.{Decided}
+use Rattle.projection.specs.Projection.{valuesOf, projection, excerpted}
+use Rattle.projection.specs.Outcome.{noPattern, writing, excerptAnswerOf, excerptLeavesOf, excerptAnswer, excerptLeaves}
+use Rattle.projection.specs.Marks.{entriesOf, TableOf}
+use Rattle.projection.specs.Listed.{Listable}
+use Rattle.projection.specs.Copies.{Writes}
+use Rattle.projection.specs.declared.write.Projected.{Projected}
+use Rattle.projection.specs.declared.write.Projected.the-variants.{Refused}
+use Rattle.projection.proofs.Along.{whole-readable}
+use Rattle.projection.proofs.Answering.{count-small}
+
+-- a log that is refused
+pub excerpt-refused : (log out : List ℕ) {answer : Checked} {number index : ℕ} → answer ≡ checked (readLog log) → answer ≡ check.Refused number index
+    → (Refused number index ≡ excerptAnswer (readLog log) out) × (out ≡ excerptLeaves (readLog log) out)
+excerpt-refused log out {number = number} {index = index} e f = let reads : readLog log ≡ refused number index = checked-refused (readLog log) (sym e ∙ f) in rw reads (refl, refl)
+
+-- listed operations have the values of their entries
+values-agree : (count end : ℕ) (table : List ℕ) (h : History) → Agree (tabled count end table) h → (listed : List ℕ) → Each (λ o. o < count) listed → valuesOf (entriesOf table) listed ≡ valuesOf h listed
+unfolding valuesOf
+values-agree count end table h a [] known = refl
+values-agree count end table h a (o ∷ listed) (l, known) = rw (a .kind o l, a .value o l, values-agree count end table h a listed known) refl
+
+-- they are small numbers
+known-small : {count : ℕ} → count ≤ maxRecords → (listed : List ℕ) → Each (λ o. o < count) listed → (i : ℕ) → i < length listed → getD listed i 0 < maxRecords
+known-small few [] known i l = absurd (omega arith)
+known-small few (o ∷ listed) (k, known) zero l = omega arith
+known-small few (o ∷ listed) (k, known) (suc i) l = known-small few listed known i (omega arith)
+
+module _ {log : List ℕ} {n m : ℕ} {table : List ℕ} (of : TableOf log n m table) where
+  -- the history of the log's records
+  abbrev own : History
+  own = historyOf (of .whole .records)
+
+  lawful : Lawful own
+  lawful = history-lawful (whole-readable (of .whole))
+
+  -- the judge may be asked of the table
+  pub held : Held (tabled m n table)
+  held = record {
+    lawful = agree-lawful (agree-sym (of .agree)) lawful;
+    few = count-small of;
+    short = omega (arith, of .whole .counted, whole-readable (of .whole) .partial .few);
+  }
+
+  module _ {verdict k : ℕ} {list : List ℕ} (decided : Decided (tabled m n table) verdict k list) where
+    -- the operations that it lists
+    pub listed-length : k ≡ length (take k list)
+    listed-length = sym (length-take-le k list (omega (arith, decided .within, decided .sized)))
+
+    -- its verdict is right for the log's own history
+    judged : Verdict own verdict (take k list)
+    judged = agree-verdict (of .agree) (decided .verdict)
+
+    -- the verdict is an order
+    pub order-found : verdict ≡ orderVerdict → (out : List ℕ) → (Refused noPattern 0 ≡ excerptAnswer (readLog log) out) × (out ≡ excerptLeaves (readLog log) out)
+    order-found e out = rw (of .whole .reads) (go (first-violation own))
+      where
+        go : (found : SomeViolation own ⊎ NoViolation own)
+            → (Refused noPattern 0 ≡ excerptAnswerOf (of .whole .records) found out) × (out ≡ excerptLeavesOf (of .whole .records) found out)
+        go (inl (number, listed, first)) = absurd (excluded lawful (zero-is-linearization judged e .legal) (first .occurs))
+        go (inr clean) = (refl, refl)
+
+    -- the verdict is a pattern
+    module _ (some : verdict ≡ orderVerdict → ⊥) where
+      pattern : FirstViolation own verdict (take k list)
+      pattern = pattern-of judged some
+
+      -- its operations are in the table
+      listed-known : Each (λ o. o < m) (take k list)
+      listed-known = rw (of .agree .count) (occurs-known (pattern .occurs))
+
+      pub listed-listable : Listable (take k list)
+      listed-listable = record { few = omega (arith, listed-length, decided .within); small = known-small (count-small of) (take k list) listed-known }
+
+      -- and the excerpt is made from them
+      pub pattern-found : {out out' : List ℕ} {r : Projected} → Writes log (λ records. projection records (take k list) (valuesOf (entriesOf table) (take k list))) out r out'
+          → (r ≡ excerptAnswer (readLog log) out) × (out' ≡ excerptLeaves (readLog log) out)
+      pattern-found {out} {out'} {r} writes = rw (of .whole .reads) (go (first-violation own))
+        where
+          same : {number : ℕ} (listed : List ℕ) → FirstViolation own number listed
+              → projection (of .whole .records) (take k list) (valuesOf (entriesOf table) (take k list)) ≡ excerpted (of .whole .records) listed
+          same listed first =
+              rw (first-violation-one first pattern .1)
+              (ap (projection (of .whole .records) (take k list)) (values-agree m n table own (of .agree) (take k list) listed-known))
+
+          go : (found : SomeViolation own ⊎ NoViolation own)
+              → (r ≡ excerptAnswerOf (of .whole .records) found out) × (out' ≡ excerptLeavesOf (of .whole .records) found out)
+          go (inl (number, listed, first)) = (
+            writes .answers (of .whole .records) (of .whole .reads) ∙ ap (λ records. writing (encodeLog records) out) (same listed first),
+            writes .leaves (of .whole .records) (of .whole .reads) ∙ ap (λ records. written (encodeLog records) out) (same listed first),
+          )
+          go (inr clean) = absurd (clean verdict (take k list) (pattern .occurs))

@@ -1,0 +1,149 @@
+-- The theorems of this crate: the records that a projection keeps are those of a readable log again, its history is a part of the log's history,
+-- and an excerpt is judged as the log was.
+use Prim.Native.Nat.{ℕ, _≤_, _<_}
+use native.Mathlib.Omega.{arith}
+use mathlib.Core.Path.{_≡_, refl, sym, ap, _∙_}
+use mathlib.Core.Bool.{Bool, true, false}
+use mathlib.Core.Logic.{_⊎_, inl, inr}
+use mathlib.Core.List.{List, [], _∷_, _++_}
+use lib.ListN.{length, length-append}
+use Rattle.reader.specs.Choice.{if_then_else_}
+use Rattle.reader.specs.Number.{bytesOf}
+use Rattle.reader.specs.Record.{encode}
+use Rattle.reader.specs.Buffer.{written}
+use Rattle.reader.specs.Log.{maxLength, isIn, encodeAll, readable, readLog, encodeLog, operations}
+use Rattle.reader.specs.Readable.{Bytes, ReadableLog, Orderly}
+use Rattle.reader.specs.declared.record.Record.{Record}
+use Rattle.reader.proofs.Laws.{readable-log, readable-orderly, orderly-readable}
+use Rattle.history.specs.Each.{Each}
+use Rattle.history.specs.Operations.{callIndex, historyOf}
+use Rattle.history.proofs.Laws.{history-lawful}
+use Rattle.history.specs.Linearization.{Linearization}
+use Rattle.violations.specs.Violations.{NoViolation}
+use Rattle.violations.specs.Verdict.{FirstViolation, Verdict}
+use Rattle.violations.specs.Parts.{Part, Kept}
+use Rattle.violations.proofs.Laws.{SomeViolation, first-violation, first-violation-one, occurs-known, excluded, part-verdict}
+use Rattle.projection.specs.Projection.{operationOf, keepRecords, valuesOf, keeps, projection, narrowed, excerpted}
+use Rattle.projection.specs.Outcome.{noPattern, writing, excerptAnswerOf, excerptLeavesOf, excerptAnswer, excerptLeaves}
+use Rattle.projection.specs.Marks as Marks
+use Rattle.projection.specs.declared.write.Projected.the-variants.{Refused}
+use Rattle.projection.proofs.Selecting.{keep-same}
+use Rattle.projection.proofs.Picking.{Picked}
+use Rattle.projection.proofs.Turns.{Together, picked-orderly}
+use Rattle.projection.proofs.Owners.{operationAt, keep-picks, operation-own, kept-together}
+use Rattle.projection.proofs.Choosing.{keeps-all-of-value, keeps-listed, each-in}
+use Rattle.projection.proofs.Parts.{OnValues, SameRecords, picked-part, picked-kept, picked-only}
+
+module _ (records : List Record) (empties values : List ℕ) where
+  -- whether the record with an index is kept
+  abbrev keepsRecord : ℕ → Bool
+  keepsRecord i = keeps (historyOf records) empties values (operationAt [] records i)
+
+  -- the kept records are picked by this
+  picks : Picked keepsRecord records (projection records empties values)
+  picks = keep-picks (keeps (historyOf records) empties values) [] records
+
+  -- a call is kept with its return
+  together : Orderly records → Together keepsRecord records
+  together orderly = kept-together orderly (keeps (historyOf records) empties values)
+
+  -- the call of an operation is kept exactly if the operation is
+  keeps-call : (o : ℕ) → o < operations records → keepsRecord (callIndex records o) ≡ keeps (historyOf records) empties values o
+  keeps-call o h = ap (keeps (historyOf records) empties values) (operation-own records o h)
+
+  -- with an operation all operations on its value are kept
+  on-values : OnValues keepsRecord records
+  on-values o q x y e k = keeps-call o (x .known) ∙ keeps-all-of-value (historyOf records) empties values o q x y e (sym (keeps-call q (y .known)) ∙ k)
+
+-- The records that are kept are those of a readable log again.
+pub projection-orderly : {records : List Record} (empties values : List ℕ) → Orderly records → Orderly (projection records empties values)
+projection-orderly {records} empties values orderly = picked-orderly orderly (together records empties values orderly) (picks records empties values)
+
+-- the log of orderly records
+orderly-log : {records : List Record} → Orderly records → ReadableLog (encodeLog records) records
+orderly-log {records} orderly = readable-log (encodeLog records) records (orderly-readable records orderly)
+
+-- The history of the kept records is a part of the history of all.
+pub projection-part : {records : List Record} (empties values : List ℕ) → Orderly records → Part (historyOf records) (historyOf (projection records empties values))
+projection-part {records} empties values orderly =
+    picked-part (together records empties values orderly) (picks records empties values) (orderly-log orderly .partial) (orderly-log (projection-orderly empties values orderly) .partial) (on-values records empties values)
+
+-- It keeps the operations that are to be kept
+pub projection-keeps : {records : List Record} (empties values : List ℕ) (orderly : Orderly records) → (o : ℕ) → o < operations records
+    → keeps (historyOf records) empties values o ≡ true → Kept (projection-part empties values orderly) o
+unfolding projection-part
+projection-keeps {records} empties values orderly o h k = picked-kept _ _ _ _ _ o h (keeps-call records empties values o h ∙ k)
+
+-- and no others, with their records as they were.
+pub projection-only : {records : List Record} (empties values : List ℕ) (orderly : Orderly records) → (q : ℕ) → q < operations (projection records empties values)
+    → (keeps (historyOf records) empties values (projection-part empties values orderly .to q) ≡ true) × SameRecords records (projection records empties values) (projection-part empties values orderly .to q) q
+unfolding projection-part
+projection-only {records} empties values orderly q h =
+    let (marked, same) = picked-only _ _ _ _ _ q h in
+    (sym (keeps-call records empties values (projection-part empties values orderly .to q) (projection-part empties values orderly .known q h)) ∙ marked, same)
+
+-- An excerpt keeps all operations that are listed.
+pub excerpt-keeps : {records : List Record} (listed : List ℕ) (orderly : Orderly records) → Each (λ o. o < operations records) listed
+    → Each (Kept (projection-part listed (valuesOf (historyOf records) listed) orderly)) listed
+excerpt-keeps {records} listed orderly = each-in listed (λ o i h. projection-keeps listed (valuesOf (historyOf records) listed) orderly o h (keeps-listed (historyOf records) listed o i))
+
+-- The excerpt of a log with a pattern is a readable log, and its verdict has the number of that pattern.
+pub excerpt-verdict : (log : List ℕ) (records : List Record) → readLog log ≡ readable records → Bytes log → {n : ℕ} {listed : List ℕ} → FirstViolation (historyOf records) n listed
+    → (readLog (encodeLog (excerpted records listed)) ≡ readable (excerpted records listed)) × ((m : ℕ) (ys : List ℕ) → Verdict (historyOf (excerpted records listed)) m ys → m ≡ n)
+excerpt-verdict log records reads bytes {n} {listed} first =
+    let read : ReadableLog log records = readable-log log records reads in
+    let orderly : Orderly records = readable-orderly read bytes in
+    let values : List ℕ = valuesOf (historyOf records) listed in
+    let kept : Orderly (excerpted records listed) = projection-orderly listed values orderly in (
+      orderly-readable (excerpted records listed) kept,
+      λ m ys verdict. sym (part-verdict (projection-part listed values orderly) (history-lawful read) (history-lawful (orderly-log kept)) first (excerpt-keeps listed orderly (occurs-known (first .occurs))) verdict),
+    )
+
+-- A log that is written out of a log is no longer than a log may be.
+pub projection-short : (log : List ℕ) (records : List Record) → readLog log ≡ readable records → Bytes log → (empties values : List ℕ) → length (encodeLog (projection records empties values)) ≤ maxLength
+projection-short log records reads bytes empties values = orderly-log (projection-orderly empties values (readable-orderly (readable-log log records reads) bytes)) .partial .short
+
+-- "Narrowing to a list of values keeps all records of operations on those values and nothing else": what is written is a readable log.
+pub narrowed-readable : (log : List ℕ) (records : List Record) → readLog log ≡ readable records → Bytes log → (values : List ℕ) → readLog (encodeLog (narrowed records values)) ≡ readable (narrowed records values)
+narrowed-readable log records reads bytes values = orderly-readable (narrowed records values) (projection-orderly [] values (readable-orderly (readable-log log records reads) bytes))
+
+-- "repeats in the list change nothing": lists that hold the same values narrow a log to the same records.
+pub narrowed-alike : (records : List Record) (values others : List ℕ) → ((v : ℕ) → isIn v values ≡ isIn v others) → narrowed records values ≡ narrowed records others
+narrowed-alike records values others same = keep-same (keeps (historyOf records) [] values) (keeps (historyOf records) [] others) records (λ i l. rw (same (historyOf records .value (Marks.operationAt records i))) refl)
+
+-- 23: "excerpt where the verdict is an order": so it is answered, and nothing is written.
+pub excerpt-of-order : (log : List ℕ) (records : List Record) → readLog log ≡ readable records → (order : List ℕ) → Linearization (historyOf records) order → (out : List ℕ)
+    → (excerptAnswer (readLog log) out ≡ Refused noPattern 0) × (excerptLeaves (readLog log) out ≡ out)
+excerpt-of-order log records reads order legal out = rw reads (go (first-violation (historyOf records)))
+  where
+    go : (found : SomeViolation (historyOf records) ⊎ NoViolation (historyOf records)) → (excerptAnswerOf records found out ≡ Refused noPattern 0) × (excerptLeavesOf records found out ≡ out)
+    go (inl (n, listed, first)) = absurd (excluded (history-lawful (readable-log log records reads)) legal (first .occurs))
+    go (inr clean) = (refl, refl)
+
+-- With a pattern the excerpt of its operations is written, or 24 is answered.
+pub excerpt-of-pattern : (log : List ℕ) (records : List Record) → readLog log ≡ readable records → {n : ℕ} {listed : List ℕ} → FirstViolation (historyOf records) n listed → (out : List ℕ)
+    → (excerptAnswer (readLog log) out ≡ writing (encodeLog (excerpted records listed)) out) × (excerptLeaves (readLog log) out ≡ written (encodeLog (excerpted records listed)) out)
+excerpt-of-pattern log records reads {n} {listed} first out = rw reads (go (first-violation (historyOf records)))
+  where
+    go : (found : SomeViolation (historyOf records) ⊎ NoViolation (historyOf records))
+        → (excerptAnswerOf records found out ≡ writing (encodeLog (excerpted records listed)) out) × (excerptLeavesOf records found out ≡ written (encodeLog (excerpted records listed)) out)
+    go (inl (m, other, found)) =
+        let same : other ≡ listed = first-violation-one found first .1 in
+        (ap (λ l. writing (encodeLog (excerpted records l)) out) same, ap (λ l. written (encodeLog (excerpted records l)) out) same)
+    go (inr clean) = absurd (clean n listed (first .occurs))
+
+-- What is written out of a log is no longer than the log.
+kept-no-longer : (keep : ℕ → Bool) (past records : List Record) → length (encodeAll (keepRecords keep past records)) ≤ length (encodeAll records)
+unfolding keepRecords encodeAll
+kept-no-longer keep past [] = omega arith
+kept-no-longer keep past (r ∷ records) = by (keep (operationOf past r)) (kept-no-longer keep (r ∷ past) records)
+  where
+    by : (b : Bool) → length (encodeAll (keepRecords keep (r ∷ past) records)) ≤ length (encodeAll records)
+        → length (encodeAll (if b then r ∷ keepRecords keep (r ∷ past) records else keepRecords keep (r ∷ past) records)) ≤ length (encode r ++ encodeAll records)
+    by true l = omega (arith, length-append (encode r) (encodeAll (keepRecords keep (r ∷ past) records)), length-append (encode r) (encodeAll records))
+    by false l = omega (arith, length-append (encode r) (encodeAll records))
+
+pub projection-fits : (log : List ℕ) (records : List Record) → readLog log ≡ readable records → Bytes log → (empties values : List ℕ) → length (encodeLog (projection records empties values)) ≤ length log
+unfolding bytesOf
+projection-fits log records reads bytes empties values =
+    omega (arith, kept-no-longer (keeps (historyOf records) empties values) [] records, ap length (readable-log log records reads .partial .bytes bytes))

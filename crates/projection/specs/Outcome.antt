@@ -1,0 +1,50 @@
+-- What narrowing and the excerpt answer, and what they leave in the lent buffer. Document 01, "Turned down by how things stand": "then the input
+-- list, 23, 24".
+use Prim.Native.Nat.{ℕ}
+use mathlib.Core.Logic.{_⊎_, inl, inr}
+use mathlib.Core.List.{List}
+use lib.ListN.{length}
+use Rattle.reader.specs.Choice.{if_then_else_}
+use Rattle.reader.specs.Buffer.{bufferTooShort, lacksRoom, written}
+use Rattle.reader.specs.Log.{Reading, readable, refused, encodeLog}
+use Rattle.reader.specs.declared.record.Record.{Record}
+use Rattle.history.specs.Operations.{historyOf}
+use Rattle.violations.specs.Violations.{NoViolation}
+use Rattle.violations.proofs.Laws.{SomeViolation, first-violation}
+use Rattle.projection.specs.Projection.{narrowed, excerpted}
+use Rattle.projection.specs.declared.write.Projected.{Projected}
+use Rattle.projection.specs.declared.write.Projected.the-variants.{Written, Refused}
+
+-- 23: "excerpt where the verdict is an order"
+abbrev pub noPattern : ℕ
+noPattern = 23
+
+-- the answer of a call that writes these bytes: how many they are, or 24
+abbrev pub writing : List ℕ → List ℕ → Projected
+writing bytes out = if lacksRoom bytes out then Refused bufferTooShort 0 else Written (length bytes)
+
+-- narrowing of a log, as it was read: the log's refusal, or the narrowed log is written
+abbrev pub narrowAnswer : Reading → List ℕ → List ℕ → Projected
+narrowAnswer (refused number index) values out = Refused number index
+narrowAnswer (readable records) values out = writing (encodeLog (narrowed records values)) out
+
+abbrev pub narrowLeaves : Reading → List ℕ → List ℕ → List ℕ
+narrowLeaves (refused number index) values out = out
+narrowLeaves (readable records) values out = written (encodeLog (narrowed records values)) out
+
+-- the excerpt of a log: the log's refusal; 23 if no pattern occurs; or the excerpt of the first pattern is written
+abbrev pub excerptAnswerOf : (records : List Record) → SomeViolation (historyOf records) ⊎ NoViolation (historyOf records) → List ℕ → Projected
+excerptAnswerOf records (inl (number, listed, first)) out = writing (encodeLog (excerpted records listed)) out
+excerptAnswerOf records (inr clean) out = Refused noPattern 0
+
+abbrev pub excerptLeavesOf : (records : List Record) → SomeViolation (historyOf records) ⊎ NoViolation (historyOf records) → List ℕ → List ℕ
+excerptLeavesOf records (inl (number, listed, first)) out = written (encodeLog (excerpted records listed)) out
+excerptLeavesOf records (inr clean) out = out
+
+abbrev pub excerptAnswer : Reading → List ℕ → Projected
+excerptAnswer (refused number index) out = Refused number index
+excerptAnswer (readable records) out = excerptAnswerOf records (first-violation (historyOf records)) out
+
+abbrev pub excerptLeaves : Reading → List ℕ → List ℕ
+excerptLeaves (refused number index) out = out
+excerptLeaves (readable records) out = excerptLeavesOf records (first-violation (historyOf records)) out

@@ -1,0 +1,50 @@
+-- Logs written out of a log. Document 01, "Sheet, excerpt, narrowing": "Excerpt: the log of all records of all operations on the values of the
+-- listed operations, and of the listed empty remove, in their places, with clients and ticks as they were." "Narrowing to a list of values keeps
+-- all records of operations on those values and nothing else; repeats in the list change nothing."
+use Prim.Native.Nat.{ℕ}
+use mathlib.Core.Bool.{Bool}
+use mathlib.Core.List.{List, [], _∷_}
+use lib.Dec.{eqb}
+use Rattle.reader.specs.Choice.{if_then_else_}
+use Rattle.reader.specs.Log.{isCall, isIn, operations}
+use Rattle.reader.specs.declared.record.Record.{Record}
+use Rattle.history.specs.History.{History, emptyRemove}
+use Rattle.history.specs.Operations.{historyOf}
+
+-- the operation that a client called last, by the records of the past, latest first: its call has as many calls before it as its number says
+unfoldable pub latestOf : List Record → ℕ → ℕ
+latestOf [] client = 0
+latestOf (r ∷ past) client =
+    if eqb (isCall (r .event)) 0 then latestOf past client else
+    if eqb (r .client) client then operations past else
+    latestOf past client
+
+-- the operation of a record: a call's own, and the one that a return ends, its client's latest
+abbrev pub operationOf : List Record → Record → ℕ
+operationOf past r = latestOf (r ∷ past) (r .client)
+
+-- the records of the operations that are kept, in their places, behind those of the past
+unfoldable pub keepRecords : (ℕ → Bool) → List Record → List Record → List Record
+keepRecords keep past [] = []
+keepRecords keep past (r ∷ records) = if keep (operationOf past r) then r ∷ keepRecords keep (r ∷ past) records else keepRecords keep (r ∷ past) records
+
+-- the values of the operations that a list names; an empty remove has none
+unfoldable pub valuesOf : History → List ℕ → List ℕ
+valuesOf h [] = []
+valuesOf h (o ∷ listed) = if eqb (h .kind o) emptyRemove then valuesOf h listed else h .value o ∷ valuesOf h listed
+
+-- whether an operation is kept with these empty removes and these values
+abbrev pub keeps : History → List ℕ → List ℕ → ℕ → Bool
+keeps h empties values o = if eqb (h .kind o) emptyRemove then isIn o empties else isIn (h .value o) values
+
+-- the records of these empty removes and of all operations on these values
+abbrev pub projection : List Record → List ℕ → List ℕ → List Record
+projection records empties values = keepRecords (keeps (historyOf records) empties values) [] records
+
+-- narrowing to a list of values
+abbrev pub narrowed : List Record → List ℕ → List Record
+narrowed records values = projection records [] values
+
+-- the excerpt of a pattern that lists these operations
+abbrev pub excerpted : List Record → List ℕ → List Record
+excerpted records listed = projection records listed (valuesOf (historyOf records) listed)

@@ -1,0 +1,108 @@
+// The excerpt of a log: the records of the operations on the values of those that the first pattern lists, and of a listed empty remove. What
+// is right is said in specs/Outcome.antt, what the code keeps in specs/Listed.antt.
+ghost use mathlib.Core.Path.{_≡_};
+ghost use Prim.Native.Nat.{_≤_, _<_};
+ghost use lib.ListN.{length};
+ghost use Rattle.reader.specs.Log.{maxRecords, readLog};
+ghost use Rattle.projection.specs.Projection.{valuesOf};
+ghost use Rattle.projection.specs.Outcome.{excerptAnswer, excerptLeaves};
+ghost use Rattle.projection.specs.Marks.{entriesOf, TableOf, KeptAre};
+ghost use Rattle.projection.specs.Listed.{Listable, ValueAdded, ValuesAre};
+use crate::keep::Marks;
+use crate::keep::keep;
+use crate::write::Projected;
+use crate::write::write_kept;
+use history::operations::EMPTY_REMOVE;
+use history::operations::FIELDS;
+use history::operations::KIND;
+use history::operations::Operations;
+use history::operations::TABLE;
+use history::operations::VALUE;
+use history::operations::tabulate;
+use judge::decide::decide;
+use reader::format::MAX_RECORDS;
+use reader::log::Checked;
+use reader::table::Table;
+use reader::table::push;
+
+// The verdict of an order.
+const ORDER: u32 = 0;
+
+// The number of the refusal of an excerpt where the verdict is an order.
+pub const NO_PATTERN: u32 = 23;
+
+// Puts the value of an operation behind those of a table; an empty remove has none. Answers how many there are then.
+fn add_value(table: &Operations, o: usize, count: usize, values: &mut Table) -> usize
+    requires { ⌜ (o < maxRecords) × (count < maxRecords) × (length (now values) ≡ maxRecords) ⌝ }
+    ensures { λ r. ⌜ ValueAdded (now (table .entry)) o count (now (values .entry)) r (now (values .exit)) ⌝ }
+{
+    let at = o * FIELDS;
+    if table[at + KIND] == EMPTY_REMOVE {
+        return count;
+    }
+    push(values, count, table[at + VALUE]);
+    count + 1
+}
+
+// Collects the values of the listed operations. Answers how many there are.
+fn collect(table: &Operations, listed: &[u32], values: &mut Table) -> usize
+    requires { ⌜ Listable (now listed) × (length (now values) ≡ maxRecords) ⌝ }
+    ensures { λ r. ⌜ ValuesAre (now (table .entry)) (now (listed .entry)) r (now (values .exit)) ⌝ }
+{
+    let mut count = 0;
+    let mut i = 0;
+    while i < listed.len() {
+        count = add_value(table, listed[i] as usize, count, values);
+        i += 1;
+    }
+    count
+}
+
+// Notes for each operation of the table whether the excerpt of a pattern that lists these keeps it.
+fn keep_listed(table: &Operations, count: usize, listed: &[u32], kept: &mut Marks)
+    requires { ⌜ (count ≤ maxRecords) × Listable (now listed) × (length (now kept) ≡ maxRecords) ⌝ }
+    ensures { λ _. ⌜ KeptAre (now (table .entry)) count (now (listed .entry)) (valuesOf (entriesOf (now (table .entry))) (now (listed .entry))) (now (kept .exit)) ⌝ }
+{
+    let mut values = [0u32; MAX_RECORDS];
+    let n = collect(table, listed, &mut values);
+    keep(table, count, listed, &values[..n], kept);
+}
+
+// Writes the excerpt of a readable log, whose operations the table holds.
+fn write_excerpt(
+    log: &[u8],
+    records: usize,
+    table: &Operations,
+    count: usize,
+    out: &mut [u8],
+) -> Projected
+    requires { ⌜ TableOf (now log) records count (now table) ⌝ }
+    ensures { λ r. ⌜ (r ≡ excerptAnswer (readLog (now (log .entry))) (now (out .entry))) × (now (out .exit) ≡ excerptLeaves (readLog (now (log .entry))) (now (out .entry))) ⌝ }
+{
+    let mut list = [0u32; MAX_RECORDS];
+    let finding = decide(table, count, records, &mut list);
+    if finding.verdict == ORDER {
+        return Projected::Refused {
+            number: NO_PATTERN,
+            index: 0,
+        };
+    }
+    let listed = finding.listed;
+    let mut kept = [0u8; MAX_RECORDS];
+    keep_listed(table, count, &list[..listed], &mut kept);
+    write_kept(log, records, &kept, out)
+}
+
+// Writes the excerpt of a log: that of its first pattern.
+pub fn excerpt(log: &[u8], out: &mut [u8]) -> Projected
+    ensures { λ r. ⌜ (r ≡ excerptAnswer (readLog (now (log .entry))) (now (out .entry))) × (now (out .exit) ≡ excerptLeaves (readLog (now (log .entry))) (now (out .entry))) ⌝ }
+{
+    let mut table = [0u32; TABLE];
+    match tabulate(log, &mut table) {
+        Checked::Refused { number, index } => Projected::Refused { number, index },
+        Checked::Readable {
+            records,
+            operations,
+        } => write_excerpt(log, records, &table, operations, out),
+    }
+}

@@ -1,0 +1,58 @@
+// How much of a log is marked. The marked records, and what is counted of them, are said in specs/Copies.antt.
+ghost use mathlib.Core.Path.{_≡_};
+ghost use Prim.Native.Nat.{_≤_};
+ghost use Rattle.reader.specs.Cursor.{behind};
+ghost use Rattle.reader.specs.Record.{decodeAt};
+ghost use Rattle.history.specs.Table.{Whole};
+ghost use Rattle.projection.specs.Copies.{ifSet, Measured};
+use crate::keep::MARKED;
+use crate::keep::Marks;
+use reader::cursor::read_at;
+use reader::format::HEADER;
+use reader::record::Decoded;
+
+// How many records are marked, and how many bytes they take.
+pub struct Extent {
+    pub records: usize,
+    pub bytes: usize,
+}
+
+// Where the record at an offset ends.
+pub fn end_of(log: &[u8], at: usize) -> usize
+    ensures { λ r. ⌜ r ≡ behind (decodeAt (now (log .entry)) at) at ⌝ }
+{
+    match read_at(log, at) {
+        Decoded::Found { record: _, next } => next,
+        Decoded::Malformed(_) => at,
+    }
+}
+
+// A number where the mark is set, and 0 where it is not.
+pub fn if_marked(mark: u8, x: usize) -> usize
+    ensures { λ r. ⌜ (r ≡ ifSet mark x) × (r ≤ x) ⌝ }
+{
+    if mark == MARKED { x } else { 0 }
+}
+
+// Adds up the marked records of a readable log.
+pub fn measure(log: &[u8], records: usize, marks: &Marks) -> Extent
+    requires { ⌜ Whole (now log) records ⌝ }
+    ensures { λ r. ⌜ Measured (now (log .entry)) (now (marks .entry)) r ⌝ }
+{
+    let mut count = 0;
+    let mut bytes = 0;
+    let mut at = HEADER;
+    let mut i = 0;
+    while i < records {
+        let next = end_of(log, at);
+        let mark = marks[i];
+        count += if_marked(mark, 1);
+        bytes += if_marked(mark, next - at);
+        at = next;
+        i += 1;
+    }
+    Extent {
+        records: count,
+        bytes,
+    }
+}

@@ -1,0 +1,96 @@
+// The marked records of a log written out as a log. What is written is said in specs/Outcome.antt, how the code does it in
+// specs/Copies.antt.
+ghost use mathlib.Core.Path.{_≡_};
+ghost use mathlib.Core.List.{_∷_};
+ghost use Prim.Native.Nat.{_+_, _≤_};
+ghost use lib.ListN.{length};
+ghost use Rattle.reader.specs.Log.{logVersion, headerLength, maxRecords};
+ghost use Rattle.reader.specs.Number.{bytesOf};
+ghost use Rattle.history.specs.Table.{Whole};
+ghost use Rattle.projection.specs.Copies.{marked, put, RoomFor, Copied, Writes, keptRecords};
+use crate::keep::Marks;
+use crate::mark::mark;
+use crate::measure::end_of;
+use crate::measure::if_marked;
+use crate::measure::measure;
+use reader::format::HEADER;
+use reader::format::MAX_RECORDS;
+use reader::format::VERSION;
+
+// The answer of a call that writes a log: how many bytes it wrote, or a refusal.
+pub enum Projected {
+    Written(usize),
+    Refused { number: u32, index: usize },
+}
+
+// The number of the refusal of a buffer that is too short for the answer.
+pub const BUFFER_TOO_SHORT: u32 = 24;
+
+// Writes the header of a log of so many records.
+fn write_header(count: usize, out: &mut [u8])
+    requires { ⌜ (count ≤ maxRecords) × (headerLength ≤ length (now out)) ⌝ }
+    ensures { λ _. ⌜ now (out .exit) ≡ put 0 (logVersion ∷ bytesOf 2 count) (now (out .entry)) ⌝ }
+{
+    out[0] = VERSION;
+    out[1] = (count / 256) as u8;
+    out[2] = (count % 256) as u8;
+}
+
+// Copies bytes into a buffer, to a position of it.
+fn copy(bytes: &[u8], at: usize, out: &mut [u8])
+    requires { ⌜ at + length (now bytes) ≤ length (now out) ⌝ }
+    ensures { λ _. ⌜ now (out .exit) ≡ put at (now (bytes .entry)) (now (out .entry)) ⌝ }
+{
+    let mut i = 0;
+    while i < bytes.len() {
+        out[at + i] = bytes[i];
+        i += 1;
+    }
+}
+
+// Copies the marked records of a readable log, one behind the other, behind the header.
+fn write_records(log: &[u8], records: usize, marks: &Marks, out: &mut [u8])
+    requires { ⌜ Whole (now log) records × RoomFor (now log) (now marks) (now out) ⌝ }
+    ensures { λ _. ⌜ Copied (now (log .entry)) (now (marks .entry)) (now (out .entry)) (now (out .exit)) ⌝ }
+{
+    let mut from = HEADER;
+    let mut at = HEADER;
+    let mut i = 0;
+    while i < records {
+        let next = end_of(log, from);
+        let size = if_marked(marks[i], next - from);
+        let end = from + size;
+        copy(&log[from..end], at, out);
+        at += size;
+        from = next;
+        i += 1;
+    }
+}
+
+// Writes the marked records of a readable log as a log.
+fn write_marked(log: &[u8], records: usize, marks: &Marks, out: &mut [u8]) -> Projected
+    requires { ⌜ Whole (now log) records ⌝ }
+    ensures { λ r. ⌜ Writes (now (log .entry)) (marked (now (marks .entry))) (now (out .entry)) r (now (out .exit)) ⌝ }
+{
+    let extent = measure(log, records, marks);
+    let needed = HEADER + extent.bytes;
+    if out.len() < needed {
+        return Projected::Refused {
+            number: BUFFER_TOO_SHORT,
+            index: 0,
+        };
+    }
+    write_header(extent.records, out);
+    write_records(log, records, marks, out);
+    Projected::Written(needed)
+}
+
+// Writes the records of the kept operations of a readable log as a log.
+pub fn write_kept(log: &[u8], records: usize, kept: &Marks, out: &mut [u8]) -> Projected
+    requires { ⌜ Whole (now log) records ⌝ }
+    ensures { λ r. ⌜ Writes (now (log .entry)) (keptRecords (now (kept .entry))) (now (out .entry)) r (now (out .exit)) ⌝ }
+{
+    let mut marks = [0u8; MAX_RECORDS];
+    mark(log, records, kept, &mut marks);
+    write_marked(log, records, &marks, out)
+}
