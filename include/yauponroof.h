@@ -218,7 +218,7 @@ yr_answer yr_check(const uint8_t *log, size_t log_len);
  * left out, also if its value was never removed; if a remove returned its value, no order without
  * it is legal.
  *
- * Nothing is written. Less than 64 KiB of stack is used (37.2 KB measured).
+ * Nothing is written. Less than 64 KiB of stack is used (42.4 KB measured).
  */
 yr_answer yr_replay(const uint8_t *log, size_t log_len, const uint8_t *sheet, size_t sheet_len);
 
@@ -246,7 +246,7 @@ yr_answer yr_replay(const uint8_t *log, size_t log_len, const uint8_t *sheet, si
  *
  * An accepted call writes the first 4 + 2k bytes of the sheet and leaves those behind them as they
  * were; a refused one leaves all as they were. The log is never written to. Less than 64 KiB of
- * stack is used.
+ * stack is used (49.4 KB measured).
  */
 yr_answer yr_judge(const uint8_t *log, size_t log_len, uint8_t *sheet, size_t sheet_len);
 
@@ -273,7 +273,7 @@ yr_answer yr_judge(const uint8_t *log, size_t log_len, uint8_t *sheet, size_t sh
  *
  * An accepted call writes the bytes of the excerpt and leaves those behind them as they were; a
  * refused one leaves all as they were. The log is never written to. Less than 64 KiB of stack is
- * used.
+ * used (54.6 KB measured).
  */
 yr_answer yr_excerpt(const uint8_t *log, size_t log_len, uint8_t *out, size_t out_len);
 
@@ -301,7 +301,8 @@ yr_answer yr_excerpt(const uint8_t *log, size_t log_len, uint8_t *out, size_t ou
  *     24       out_len is below the number of bytes to write (index 0)
  *
  * An accepted call writes its bytes and leaves those behind them as they were; a refused one leaves
- * all as they were. The log and the values are never written to. Less than 64 KiB of stack is used.
+ * all as they were. The log and the values are never written to. Less than 64 KiB of stack is used
+ * (38.4 KB measured).
  */
 yr_answer yr_narrow(const uint8_t *log, size_t log_len, const uint32_t *values, size_t count,
                     uint8_t *out, size_t out_len);

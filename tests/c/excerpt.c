@@ -6,11 +6,10 @@
 #include <string.h>
 
 #include "count.h"
+#include "lent.h"
 #include "logs.h"
 #include "sheets.h"
 #include "yauponroof.h"
-
-#define FILL 0xA5
 
 static struct log run, run_before, kept;
 static struct sheet order;
@@ -26,19 +25,10 @@ static yr_answer excerpt(size_t length)
     return answer;
 }
 
-/* Whether the buffer is as it was from there on. */
-static int unchanged_from(size_t start)
-{
-    for (size_t i = start; i < sizeof out; i++)
-        if (out[i] != FILL)
-            return 0;
-    return 1;
-}
-
 /* The verdict on a log, which must be readable. */
 static unsigned verdict(const uint8_t *log, size_t length)
 {
-    uint8_t sheet[YR_SHEET_MAX];
+    uint8_t sheet[YR_SHEET_MAX] = {0};
     yr_answer answer = yr_judge(log, length, sheet, sizeof sheet);
     count(YR_REFUSED(answer) == 0, "the log is judged");
     return sheet_verdict(sheet);
@@ -49,18 +39,18 @@ static void expect_kept(unsigned pattern, const char *what)
 {
     expect_answer(excerpt(kept.length), 0, (uint32_t)kept.length, what);
     count(memcmp(out, kept.bytes, kept.length) == 0, what);
-    count(unchanged_from(kept.length), "the bytes behind the excerpt are unchanged");
+    count(is_filled(out, kept.length, sizeof out), "the bytes behind the excerpt are unchanged");
     count(verdict(run.bytes, run.length) == pattern, "the log has the pattern");
     count(verdict(out, kept.length) == pattern, "the excerpt has the pattern");
     expect_answer(excerpt(kept.length - 1), YR_REFUSAL_BUFFER, 0, "a byte less than needed");
-    count(unchanged_from(0), "nothing is written to a buffer that is too short");
+    count(is_filled(out, 0, sizeof out), "nothing is written to a buffer that is too short");
 }
 
 /* Expects this refusal of `run`, with a buffer that is long enough and with one of no bytes. */
 static void expect_refused(uint32_t refusal, uint32_t index, const char *what)
 {
     expect_answer(excerpt(YR_LOG_MAX), refusal, index, what);
-    count(unchanged_from(0), "a refused call writes nothing");
+    count(is_filled(out, 0, sizeof out), "a refused call writes nothing");
     expect_answer(excerpt(0), refusal, index, what);
 }
 

@@ -6,23 +6,13 @@
 #include <string.h>
 
 #include "count.h"
+#include "lent.h"
 #include "logs.h"
 #include "sheets.h"
 #include "yauponroof.h"
 
 /* What an accepted replay returns for a legal order. */
 enum { YES = 1 };
-
-#define FILL 0xA5
-
-/* Document 01's second run: client 1 adds 7 and removes it, at ticks 1 to 4. */
-static const uint8_t second_run[] = {
-    1, 0, 4,
-    11, 1, 0, 1, 0, 0, 0, 1, 0, 0, 0, 7,
-    7, 3, 0, 1, 0, 0, 0, 2,
-    7, 2, 0, 1, 0, 0, 0, 3,
-    11, 4, 0, 1, 0, 0, 0, 4, 0, 0, 0, 7,
-};
 
 static struct log run, run_before;
 static struct sheet order;
@@ -38,30 +28,21 @@ static yr_answer judge(size_t length)
     return answer;
 }
 
-/* Whether the sheet is as it was from there on. */
-static int unchanged_from(size_t start)
-{
-    for (size_t i = start; i < sizeof sheet; i++)
-        if (sheet[i] != FILL)
-            return 0;
-    return 1;
-}
-
 /* Expects this sheet of `run`, with just enough bytes for it and with one byte less. */
 static void expect_sheet(const uint8_t *bytes, size_t length, const char *what)
 {
     expect_answer(judge(length), 0, (uint32_t)length, what);
     count(memcmp(sheet, bytes, length) == 0, what);
-    count(unchanged_from(length), "the bytes behind the sheet are unchanged");
+    count(is_filled(sheet, length, sizeof sheet), "the bytes behind the sheet are unchanged");
     expect_answer(judge(length - 1), YR_REFUSAL_BUFFER, 0, "a byte less than needed");
-    count(unchanged_from(0), "nothing is written to a sheet that is too short");
+    count(is_filled(sheet, 0, sizeof sheet), "nothing is written to a sheet that is too short");
 }
 
 /* Expects this refusal of `run`, with a sheet that is long enough and with one of no bytes. */
 static void expect_refused(uint32_t refusal, uint32_t index, const char *what)
 {
     expect_answer(judge(YR_SHEET_MAX), refusal, index, what);
-    count(unchanged_from(0), "nothing is written if the log is refused");
+    count(is_filled(sheet, 0, sizeof sheet), "nothing is written if the log is refused");
     expect_answer(judge(0), refusal, index, what);
 }
 
@@ -71,7 +52,7 @@ static void expect_order(unsigned listed, const char *what)
     yr_answer answer = judge(YR_SHEET_MAX);
     expect_answer(answer, 0, SHEET_HEADER + 2 * listed, what);
     count(sheet_verdict(sheet) == 0 && sheet_k(sheet) == listed, what);
-    count(unchanged_from(YR_VALUE(answer)), "the bytes behind the sheet are unchanged");
+    count(is_filled(sheet, YR_VALUE(answer), sizeof sheet), "the bytes behind the sheet are unchanged");
     expect_answer(yr_replay(run.bytes, run.length, sheet, YR_VALUE(answer)), 0, YES, what);
 }
 
@@ -202,7 +183,7 @@ static void check_longest_sheet(void)
     expect_order(682, "341 adds without return, removed from the last to the first");
     expect_answer(judge(YR_SHEET_MAX), 0, YR_SHEET_MAX, "the longest sheet");
     expect_answer(judge(YR_SHEET_MAX - 1), YR_REFUSAL_BUFFER, 0, "a byte less than YR_SHEET_MAX");
-    count(unchanged_from(0), "nothing is written to a sheet that is too short");
+    count(is_filled(sheet, 0, sizeof sheet), "nothing is written to a sheet that is too short");
 }
 
 int main(void)

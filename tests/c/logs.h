@@ -16,6 +16,15 @@
 
 enum kind { CALL_ADD = 1, CALL_REMOVE, RETURN_ADD, RETURN_VALUE, RETURN_EMPTY };
 
+/* Document 01's second run: client 1 adds 7 and removes it, at ticks 1 to 4. */
+static const uint8_t second_run[] = {
+    1, 0, 4,
+    11, 1, 0, 1, 0, 0, 0, 1, 0, 0, 0, 7,
+    7, 3, 0, 1, 0, 0, 0, 2,
+    7, 2, 0, 1, 0, 0, 0, 3,
+    11, 4, 0, 1, 0, 0, 0, 4, 0, 0, 0, 7,
+};
+
 /* The bytes of a log with room for records that are too many. */
 struct log {
     uint8_t bytes[YR_LOG_MAX + 64];

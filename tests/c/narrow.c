@@ -6,11 +6,10 @@
 #include <string.h>
 
 #include "count.h"
+#include "lent.h"
 #include "logs.h"
 #include "sheets.h"
 #include "yauponroof.h"
-
-#define FILL 0xA5
 
 /* What an empty remove is on: no value of the log. */
 #define NONE 99
@@ -29,25 +28,16 @@ static yr_answer narrow(const uint32_t *values, size_t number, size_t length)
     return answer;
 }
 
-/* Whether the buffer is as it was from there on. */
-static int unchanged_from(size_t start)
-{
-    for (size_t i = start; i < sizeof out; i++)
-        if (out[i] != FILL)
-            return 0;
-    return 1;
-}
-
 /* Expects `run`, narrowed to the values, to be `kept`. */
 static void expect_kept(const uint32_t *values, size_t number, const char *what)
 {
     expect_answer(narrow(values, number, kept.length), 0, (uint32_t)kept.length, what);
     count(memcmp(out, kept.bytes, kept.length) == 0, what);
-    count(unchanged_from(kept.length), "the bytes behind are unchanged");
+    count(is_filled(out, kept.length, sizeof out), "the bytes behind are unchanged");
     count(YR_REFUSED(yr_check(out, kept.length)) == 0, "what is written is readable");
     expect_answer(narrow(values, number, kept.length - 1), YR_REFUSAL_BUFFER, 0,
                   "a byte less than needed");
-    count(unchanged_from(0), "nothing is written to a buffer that is too short");
+    count(is_filled(out, 0, sizeof out), "nothing is written to a buffer that is too short");
 }
 
 /* Writes `run`, and to `kept` the records of operations on the value. */
@@ -106,7 +96,7 @@ static void expect_refused(uint32_t refusal, uint32_t index, const char *what)
 {
     const uint32_t values[] = {7};
     expect_answer(narrow(values, 1, YR_LOG_MAX), refusal, index, what);
-    count(unchanged_from(0), "a refused call writes nothing");
+    count(is_filled(out, 0, sizeof out), "a refused call writes nothing");
     expect_answer(narrow(values, 1, 0), refusal, index, what);
 }
 

@@ -13,15 +13,6 @@
 /* What an accepted replay returns. */
 enum { NO, YES };
 
-/* Document 01's second run: client 1 adds 7 and removes it, at ticks 1 to 4. */
-static const uint8_t second_run[] = {
-    1, 0, 4,
-    11, 1, 0, 1, 0, 0, 0, 1, 0, 0, 0, 7,
-    7, 3, 0, 1, 0, 0, 0, 2,
-    7, 2, 0, 1, 0, 0, 0, 3,
-    11, 4, 0, 1, 0, 0, 0, 4, 0, 0, 0, 7,
-};
-
 static struct log run;
 static struct sheet order;
 

@@ -90,3 +90,16 @@ pub fn refused_logs() -> Vec<Vec<u8>> {
         log(&run("A7( A7) R( R7) R(")),
     ]
 }
+
+/// Adds that never return, a client each, then removes one after the other that take these values.
+pub fn pending_adds_removed(count: u16, taken: impl Iterator<Item = u16>) -> Vec<Record> {
+    let adds = (0..count).map(|i| call_add(i, 1, u32::from(i)));
+    let removes = taken.flat_map(|value| {
+        let client = count + value;
+        [
+            call_remove(client, 1),
+            return_value(client, 1, u32::from(value)),
+        ]
+    });
+    adds.chain(removes).collect()
+}

@@ -1,8 +1,8 @@
-//! The buffer of an excerpt at every length from 0 to past the needed one: below it the call is
-//! refused 24 and writes nothing, and from there on it writes the same bytes and leaves those
-//! behind them alone.
+//! The buffer of an excerpt at every length from 0 to past the needed one, for the longest excerpts
+//! at some of them: below it the call is refused 24 and writes nothing, and from there on it writes
+//! the same bytes, which are held against the test's own, and leaves those behind them alone.
 
-use yauponroof_tests::archive::excerpt_made;
+use yauponroof_tests::archive::{excerpt_made, Archives};
 use yauponroof_tests::build::{call_remove, log, return_value};
 use yauponroof_tests::enumerate::every_log;
 use yauponroof_tests::guarded::written_twice;
@@ -17,6 +17,7 @@ use yauponroof_tests::{excerpt, refused};
 
 /// Lends buffers of these lengths; how many of them were long enough.
 fn compare_lengths(log: &[u8], lengths: impl Iterator<Item = usize>) -> usize {
+    Archives::new().compare(log);
     let made = excerpt_made(log).expect("an excerpt");
     let expected = |length| match length < made.len() {
         true => Err(refused(24, 0)),

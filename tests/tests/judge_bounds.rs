@@ -4,7 +4,9 @@ use yauponroof_tests::archive::{judged, Archives};
 use yauponroof_tests::build::{call_add, call_remove, log, return_add, return_empty, return_value};
 use yauponroof_tests::put_in::with_run;
 use yauponroof_tests::reader::{Record, MAX_RECORDS};
-use yauponroof_tests::samples::{calls_then_returns, pending_adds, Verdict, RUNS};
+use yauponroof_tests::samples::{
+    calls_then_returns, pending_adds, pending_adds_removed, Verdict, RUNS,
+};
 use yauponroof_tests::sheet::{sheet, verdict_on, MOST_JUDGED, ORDER, SHEET_MAX};
 
 /// The verdict byte and the operations listed, compared with the table and the test of orders.
@@ -28,19 +30,6 @@ fn adds_that_fill_the_log_and_never_return() {
 fn operations_that_all_overlap() {
     let (verdict, order) = verdict_of(&calls_then_returns(MAX_RECORDS));
     assert_eq!((verdict, order.len()), (ORDER, MAX_RECORDS / 2));
-}
-
-/// Adds that never return, a client each, then removes one after the other that take these values.
-fn pending_adds_removed(count: u16, taken: impl Iterator<Item = u16>) -> Vec<Record> {
-    let adds = (0..count).map(|i| call_add(i, 1, u32::from(i)));
-    let removes = taken.flat_map(|value| {
-        let client = count + value;
-        [
-            call_remove(client, 1),
-            return_value(client, 1, u32::from(value)),
-        ]
-    });
-    adds.chain(removes).collect()
 }
 
 #[test]

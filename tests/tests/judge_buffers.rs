@@ -1,7 +1,8 @@
-//! The sheet at every length from 0 to past the needed one: below it the judge is refused 24 and
-//! writes nothing, and from there on it writes the same bytes and leaves those behind them alone.
+//! The sheet at every length from 0 to past the needed one, for the longest sheets at some of them:
+//! below it the judge is refused 24 and writes nothing, and from there on it writes the same bytes,
+//! which are held against the table, and leaves those behind them alone.
 
-use yauponroof_tests::archive::judged;
+use yauponroof_tests::archive::{judged, Archives};
 use yauponroof_tests::build::{call_add, call_remove, log, return_value};
 use yauponroof_tests::enumerate::every_log;
 use yauponroof_tests::guarded::written_twice;
@@ -16,6 +17,7 @@ use yauponroof_tests::{judge, refused};
 
 /// Lends sheets of these lengths; how many of them were long enough.
 fn compare_lengths(log: &[u8], lengths: impl Iterator<Item = usize>) -> usize {
+    Archives::new().compare(log);
     let sheet = judged(log).expect("a sheet");
     let expected = |length| match length < sheet.len() {
         true => Err(refused(24, 0)),

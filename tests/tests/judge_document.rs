@@ -250,6 +250,9 @@ fn pattern_4_lists_the_lowest_adds() {
     let overlapping = "A1( A2( A1) A2) A3( A3) Ra( Ra3) Rb( Rb2)";
     assert_pattern(overlapping, 4, &[0, 2, 3]);
     assert_pattern("A1( A1) Ra( A2( Ra2)", 4, &[0, 2, 1]);
+    // Add 0 precedes add 3 alone, and add 1 precedes add 2: the lowest add a comes first.
+    let crossed = "A1( A2( A2) A3( A1) A3) A4( A4) Ra( Ra3) Rb( Rb4)";
+    assert_pattern(crossed, 4, &[0, 3, 5]);
 }
 
 #[test]
@@ -260,6 +263,9 @@ fn pattern_5_lists_the_lowest_adds() {
     let last_two = "A1( A1) A2( A2) A3( A3) R( R1) R( R3) R( R2)";
     assert_pattern(last_two, 5, &[1, 2, 4, 5]);
     assert_pattern("A1( A1) A2( R( R2) R( R1)", 5, &[0, 1, 2, 3]);
+    // Add 0 precedes add 3 alone, and add 1 precedes add 2: the lowest add a comes first.
+    let crossed = "A1( A2( A2) A3( A1) A3) A4( A4) Ra( Ra3) Rb( Rb4) Rc( Rc2) Rd( Rd1)";
+    assert_pattern(crossed, 5, &[0, 3, 5, 7]);
     // Removes that overlap may have taken effect in either order.
     let overlapping = "A1( A1) A2( A2) Ra( Rb( Ra2) Rb1)";
     assert_only_order(overlapping, &[0, 1, 3, 2]);
@@ -328,6 +334,9 @@ fn a_chain_goes_on_at_the_first_gap_beyond() {
     // Value 3 covers only behind that gap, so value 2 has to come between.
     let three = "A1( A1) Re( A2( A2) Ra( A3( A3) Ra1) Rb( Rb2) Re-) Rc( Rc3)";
     assert_pattern(three, 6, &[1, 0, 2, 4]);
+    // Add 1 returned first, so it comes before add 0.
+    let lower_add_later = "A1( A2( A2) Re( A1) Ra( Ra2) Re-) Rb( Rb1)";
+    assert_pattern(lower_add_later, 6, &[2, 1, 0]);
     // The chain ends with the last gap, though value 2 reaches beyond value 1.
     let one = "A1( A1) Re( A2( A2) Re-) Ra( Ra1) Rb( Rb2)";
     assert_pattern(one, 6, &[1, 0]);

@@ -42,7 +42,7 @@ struct Trades {
 impl Trades {
     fn compare(&mut self, records: &[Record]) {
         let before = log(records);
-        let expected = verdict(&before);
+        let expected = Archives::new().compare_records(records);
         for traded in traded(records) {
             let after = log(&traded);
             assert!(reader::read(&after).is_ok(), "{traded:?}");

@@ -1,7 +1,7 @@
 //! Narrowing of all logs of few records to every subset of their values, with repeats and with
 //! values that the log lacks, held against the tests' own narrowing record by record.
 
-use yauponroof_tests::archive::judged;
+use yauponroof_tests::archive::Archives;
 use yauponroof_tests::build::log;
 use yauponroof_tests::enumerate::{every_log, every_log_of_new_clients};
 use yauponroof_tests::narrowing::compare_narrowing;
@@ -76,11 +76,11 @@ fn a_narrowed_order_stays_an_order() {
     let mut narrowed_orders = 0;
     every_log(6, &mut |records| {
         let bytes = log(records);
-        if judged(&bytes).expect("a sheet")[1] == ORDER {
+        if Archives::new().compare(&bytes) == ORDER {
             for subset in subsets(&values(records)) {
                 let narrowed = compare_narrowing(&bytes, &subset);
-                let sheet = judged(&narrowed).expect("a sheet");
-                assert_eq!(sheet[1], ORDER, "{records:?} narrowed to {subset:?}");
+                let verdict = Archives::new().compare(&narrowed);
+                assert_eq!(verdict, ORDER, "{records:?} narrowed to {subset:?}");
                 narrowed_orders += 1;
             }
         }

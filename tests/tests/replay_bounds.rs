@@ -4,7 +4,7 @@ use yauponroof_tests::build::{call_add, call_remove, log, return_add, return_val
 use yauponroof_tests::compare::Replays;
 use yauponroof_tests::random::Random;
 use yauponroof_tests::reader::{Record, MAX_RECORDS};
-use yauponroof_tests::samples::{calls_then_returns, pending_adds};
+use yauponroof_tests::samples::{calls_then_returns, pending_adds, pending_adds_removed};
 use yauponroof_tests::sheet::{sheet, MOST_JUDGED};
 use yauponroof_tests::{replay, NO, YES};
 
@@ -83,19 +83,6 @@ fn operations_none_of_which_overlap() {
     assert_eq!(replay(&log, &sheet(&order[..511])), NO);
     assert_eq!(replay(&log, &sheet(&order[1..])), NO);
     compare_exchanges(&log, &order).assert_answered(0, 200);
-}
-
-/// Adds that never return, a client each, then removes one after the other that take these values.
-fn pending_adds_removed(count: u16, taken: impl Iterator<Item = u16>) -> Vec<Record> {
-    let adds = (0..count).map(|i| call_add(i, 1, u32::from(i)));
-    let removes = taken.flat_map(|value| {
-        let client = count + value;
-        [
-            call_remove(client, 1),
-            return_value(client, 1, u32::from(value)),
-        ]
-    });
-    adds.chain(removes).collect()
 }
 
 #[test]

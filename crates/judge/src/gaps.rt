@@ -16,7 +16,7 @@ use history::operations::KIND;
 use history::operations::Operations;
 use history::operations::RETURN;
 
-// Where the value of an operation stops covering: at the call of its partner, or at the end if it has none.
+// Where the value of an add stops covering: at the call of its partner, or at the end if it has none. Of other operations the number is not used.
 fn reach_of(table: &Operations, count: usize, end: usize, partner: &Numbers, o: usize) -> u32
     requires { ⌜ Held (tabled count end (now table)) × Partners (now table) count (now partner) × (o < count) ⌝ }
     ensures { λ r. ⌜ r ≡ reachBy (now (table .entry)) end (now (partner .entry)) o ⌝ }
@@ -28,7 +28,7 @@ fn reach_of(table: &Operations, count: usize, end: usize, partner: &Numbers, o: 
     table[(above - 1) * FIELDS + CALL]
 }
 
-// Fills the table of how far the values of the operations reach.
+// Fills the table of how far the values of the adds reach.
 pub fn fill_reaches(
     table: &Operations,
     count: usize,

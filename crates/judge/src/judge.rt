@@ -23,6 +23,7 @@ pub enum Verdict {
     Refused { number: u32, index: usize },
 }
 
+// The number of the refusal of a sheet that is too short.
 pub const BUFFER_TOO_SHORT: u32 = 24;
 
 // Writes the sheet of what was found, if there is room for it.

@@ -28,6 +28,7 @@ use Rattle.projection.specs.Outcome.{noPattern, writing, excerptAnswerOf
 use Rattle.projection.specs.Marks as Marks
 use Rattle.projection.specs.declared.write.Projected.the-variants.{Refused}
 use Rattle.projection.proofs.Selecting.{keep-same}
+use Rattle.projection.proofs.Operations.{operation-known}
 use Rattle.projection.proofs.Picking.{Picked}
 use Rattle.projection.proofs.Turns.{Together, picked-orderly}
 use Rattle.projection.proofs.Owners.{operationAt, keep-picks, operation-own, kept-together}
@@ -107,9 +108,12 @@ projection-short log records reads bytes empties values = orderly-log (projectio
 pub narrowed-readable : (log : List ℕ) (records : List Record) → readLog log ≡ readable records → Bytes log → (values : List ℕ) → readLog (encodeLog (narrowed records values)) ≡ readable (narrowed records values)
 narrowed-readable log records reads bytes values = orderly-readable (narrowed records values) (projection-orderly [] values (readable-orderly (readable-log log records reads) bytes))
 
--- "repeats in the list change nothing": lists that hold the same values narrow a log to the same records.
-pub narrowed-alike : (records : List Record) (values others : List ℕ) → ((v : ℕ) → isIn v values ≡ isIn v others) → narrowed records values ≡ narrowed records others
-narrowed-alike records values others same = keep-same (keeps (historyOf records) [] values) (keeps (historyOf records) [] others) records (λ i l. rw (same (historyOf records .value (Marks.operationAt records i))) refl)
+-- "repeats in the list change nothing", nor do values that the log lacks: lists that hold the same of its values narrow a log to the same records.
+pub narrowed-alike : (log : List ℕ) (records : List Record) → readLog log ≡ readable records → (values others : List ℕ)
+    → ((o : ℕ) → o < operations records → isIn (historyOf records .value o) values ≡ isIn (historyOf records .value o) others) → narrowed records values ≡ narrowed records others
+narrowed-alike log records reads values others same =
+    keep-same (keeps (historyOf records) [] values) (keeps (historyOf records) [] others) records
+    (λ i l. rw (same (Marks.operationAt records i) (operation-known (readable-log log records reads) i l)) refl)
 
 -- 23: "excerpt where the verdict is an order": so it is answered, and nothing is written.
 pub excerpt-of-order : (log : List ℕ) (records : List Record) → readLog log ≡ readable records → (order : List ℕ) → Linearization (historyOf records) order → (out : List ℕ)
