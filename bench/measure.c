@@ -1,13 +1,16 @@
 /*
  * Calls one entry on one log, for bench/instructions to count. The arguments name the entry and the
  * log. Prints the log's records, operations and bytes, and how many operations the order lists that
- * replay is handed, and those that the judge lists. Replay is not called on a log with a pattern.
+ * replay is handed, and those that the judge lists. Replay is not called on a log with a pattern. A
+ * feed is that of the log's last record to a session that holds the others, so it is not called on
+ * the log of no records. A session is begun, fed all records of the log and closed.
  */
 
 #include <stdio.h>
 #include <string.h>
 
 #include "logs.h"
+#include "sessions.h"
 #include "sheets.h"
 #include "yauponroof.h"
 
@@ -127,12 +130,15 @@ static const struct sample samples[] = {
 
 static yr_answer answer;
 static uint8_t judged[YR_SHEET_MAX];
+static struct held held;
 
 /* The calls that are counted, with all they call. Storing the answer keeps them from being jumps. */
 __attribute__((noinline, noclone)) void measured_check(const struct log *log);
 __attribute__((noinline, noclone)) void measured_replay(const struct log *log,
                                                         const struct sheet *order);
 __attribute__((noinline, noclone)) void measured_judge(const struct log *log);
+__attribute__((noinline, noclone)) void measured_feed(const struct log *log);
+__attribute__((noinline, noclone)) void measured_session(const struct log *log);
 
 void measured_check(const struct log *log)
 {
@@ -149,6 +155,30 @@ void measured_judge(const struct log *log)
     answer = yr_judge(log->bytes, log->length, judged, sizeof judged);
 }
 
+/* Feeds the record of the log that the session is to hold next. */
+void measured_feed(const struct log *log)
+{
+    const uint8_t *record = log->bytes + held.session.used;
+    answer = yr_feed(&held.session, held.bytes, sizeof held.bytes, record, 1u + record[0]);
+}
+
+void measured_session(const struct log *log)
+{
+    answer = yr_begin(&held.session, held.bytes, sizeof held.bytes);
+    while (YR_REFUSED(answer) == 0 && held.session.used < log->length) {
+        const uint8_t *record = log->bytes + held.session.used;
+        answer = yr_feed(&held.session, held.bytes, sizeof held.bytes, record, 1u + record[0]);
+    }
+    if (YR_REFUSED(answer) == 0)
+        answer = yr_close(&held.session, held.bytes, sizeof held.bytes, judged, sizeof judged);
+}
+
+/* Whether the judge's answer and sheet are those of the sample. */
+static int is_judged(const struct sample *sample)
+{
+    return answer == SHEET_HEADER + 2 * sample->judged && sheet_verdict(judged) == sample->verdict;
+}
+
 /* Calls the entry of that name; whether there is one and it answers as it has to. */
 static int call(const char *entry, const struct sample *sample, const struct log *log,
                 const struct sheet *order)
@@ -163,8 +193,16 @@ static int call(const char *entry, const struct sample *sample, const struct log
     }
     if (strcmp(entry, "judge") == 0) {
         measured_judge(log);
-        return answer == SHEET_HEADER + 2 * sample->judged &&
-               sheet_verdict(judged) == sample->verdict;
+        return is_judged(sample);
+    }
+    if (strcmp(entry, "feed") == 0 && log->records > 0) {
+        hold(&held, YR_OPEN, log, log->records - 1);
+        measured_feed(log);
+        return YR_REFUSED(answer) == 0 && held.session.used == log->length;
+    }
+    if (strcmp(entry, "session") == 0) {
+        measured_session(log);
+        return is_judged(sample) && held.session.used == log->length;
     }
     return 0;
 }

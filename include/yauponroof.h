@@ -1,5 +1,5 @@
 /*
- * yauponroof.h - a judge for logs of queue operations, version 0.3.0
+ * yauponroof.h - a judge for logs of queue operations, version 0.4.0
  *
  * A log tells the calls and the returns of operations on one queue, made by any number of clients.
  * yr_check says whether the log is readable and how many operations it has, or which record is at
@@ -7,7 +7,8 @@
  * order of the operations, in which one queue that did them, each between its call and its return,
  * would have answered as the log tells; or a numbered pattern that rules every order out. yr_replay
  * says whether the order on a sheet is legal for a log, whoever made it. yr_excerpt writes the part
- * of a log that shows its pattern, and yr_narrow the part that is about some values.
+ * of a log that shows its pattern, and yr_narrow the part that is about some values. A session takes
+ * the records of a log one at a time, and closing it writes the sheet of the whole log.
  *
  * Link with libyauponroof.a (Linux on x86-64), which needs memset of the C library and nothing else.
  * What the functions declared here answer is proved. This header is not: it is held against the
@@ -78,11 +79,25 @@
  * The lowest number that occurs is told. If it occurs more than once, the lowest list is told,
  * compared left to right.
  *
+ * Sessions
+ * --------
+ * A session is a yr_session, which carries its stage, open or closed, and the number of bytes used,
+ * together with a buffer that is lent to every call and whose used bytes are always the log fed so
+ * far. If a log is readable, or is so but for 10, and the buffers are long enough, feeding its
+ * records and closing answers as yr_judge does on the log and writes the same bytes. What yr_sheet
+ * and yr_session_excerpt write for a closed session is what yr_judge and yr_excerpt write for its
+ * log.
+ *
+ * A session fits its buffer if the stage is YR_OPEN or YR_CLOSED, no more bytes are used than the
+ * buffer has, and these are a readable log, or in an open session are so but for 10. All functions
+ * but yr_begin test that at every call and so read the whole log held: a feed takes about as long as
+ * yr_check on it.
+ *
  * Rules for every function
  * ------------------------
  * - Pointers are never NULL, not even with length 0.
  * - No function reads or writes outside the bytes that are lent to it. An output buffer overlaps no
- *   input.
+ *   input, and a session overlaps no buffer.
  * - No function uses the heap or a global variable, or keeps a pointer it was given. Any number of
  *   threads may call at the same time, also on the same bytes, as long as none of them changes
  *   these.
@@ -98,13 +113,16 @@
 extern "C" {
 #endif
 
-#define YR_VERSION "0.3.0"
+#define YR_VERSION "0.4.0"
 #define YR_VERSION_MAJOR 0
-#define YR_VERSION_MINOR 3
+#define YR_VERSION_MINOR 4
 #define YR_VERSION_PATCH 0
 
 /* The most records that a log may have. */
 #define YR_MAX_RECORDS 1024
+
+/* The most bytes of a record: those of a call of add, or of a return with a value. */
+#define YR_RECORD_MAX 12
 
 /*
  * The most bytes of a readable log: 3, and 12 for each of 1,024 calls of add. An excerpt or a
@@ -113,7 +131,7 @@ extern "C" {
 #define YR_LOG_MAX 12291
 
 /*
- * The most bytes of a sheet that yr_judge writes: 4, and 2 for each of 682 operations. A legal order
+ * The most bytes of a sheet that is written here: 4, and 2 for each of 682 operations. A legal order
  * is longer only if it lists adds without return whose values were never removed; yr_replay takes
  * that as well.
  */
@@ -132,10 +150,25 @@ typedef uint64_t yr_answer;
 /* What an accepted call returns; of a refused call, the record index. */
 #define YR_VALUE(answer) ((uint32_t)((answer) & 0xFFFFFFFFu))
 
+/* The stages of a session. */
+#define YR_OPEN 0
+#define YR_CLOSED 1
+
+/*
+ * A session without its buffer. yr_begin sets the members, whatever they are before. The caller may
+ * read them.
+ */
+typedef struct yr_session {
+    uint32_t stage;  /* YR_OPEN or YR_CLOSED */
+    uint32_t used;   /* how many bytes of the buffer are the log fed so far */
+} yr_session;
+
 /*
  * All refusals. Those from 1 to 11 concern what was handed in, those from 20 on how things stand.
- * A refused call writes nothing. All functions give 1 to 10; besides yr_replay gives 11, yr_judge
- * and yr_narrow 24, and yr_excerpt 23 and 24. The others belong to sessions, which are not here yet.
+ * A refused call writes nothing, also not to a session. Of whole logs all functions give 1 to 10;
+ * besides yr_replay gives 11, yr_judge and yr_narrow 24, and yr_excerpt 23 and 24. Of sessions
+ * yr_begin gives 24, yr_feed 1, 4 to 9, 20, 21, 24 and 25, yr_close 10, 20, 24 and 25, yr_sheet 22,
+ * 24 and 25, and yr_session_excerpt 22 to 25.
  */
 enum yr_refusal {
     YR_REFUSAL_BYTES = 1,            /* fewer than 3 bytes; the bytes end before or inside a record;
@@ -190,7 +223,7 @@ enum yr_refusal {
  *     1   bytes are left behind the last record (index n)
  *     10  a remove has no return (index of the earliest call of such a remove)
  *
- * Nothing is written. Less than 16 KiB of stack is used (12.4 KB measured).
+ * Nothing is written. Less than 16 KiB of stack is used (12.7 KB measured).
  */
 yr_answer yr_check(const uint8_t *log, size_t log_len);
 
@@ -218,7 +251,7 @@ yr_answer yr_check(const uint8_t *log, size_t log_len);
  * left out, also if its value was never removed; if a remove returned its value, no order without
  * it is legal.
  *
- * Nothing is written. Less than 64 KiB of stack is used (42.4 KB measured).
+ * Nothing is written. Less than 64 KiB of stack is used (42.6 KB measured).
  */
 yr_answer yr_replay(const uint8_t *log, size_t log_len, const uint8_t *sheet, size_t sheet_len);
 
@@ -302,10 +335,144 @@ yr_answer yr_excerpt(const uint8_t *log, size_t log_len, uint8_t *out, size_t ou
  *
  * An accepted call writes its bytes and leaves those behind them as they were; a refused one leaves
  * all as they were. The log and the values are never written to. Less than 64 KiB of stack is used
- * (38.4 KB measured).
+ * (38.6 KB measured).
  */
 yr_answer yr_narrow(const uint8_t *log, size_t log_len, const uint32_t *values, size_t count,
                     uint8_t *out, size_t out_len);
+
+/*
+ * Begins a session, which then is open and holds the log of no records.
+ *
+ * In:   s    the session, apart from the buffer; never NULL; what it holds before does not matter
+ *       buf  its buffer, len bytes; never NULL, not even if len is 0; what they hold before does not
+ *            matter
+ *       len  any length; YR_LOG_MAX is enough for all that can be fed
+ * Out:  accepted, with the number of bytes written, which is 3; otherwise the refusal below.
+ *
+ *     24  len is below 3 (index 0)
+ *
+ * An accepted call sets the stage to YR_OPEN and the used bytes to 3, writes 1, 0, 0 to the first 3
+ * bytes of the buffer and leaves those behind them as they were; a refused one leaves the session
+ * and the buffer as they were. Less than 16 KiB of stack is used (0.1 KB measured).
+ */
+yr_answer yr_begin(yr_session *s, uint8_t *buf, size_t len);
+
+/*
+ * Feeds a record to a session, which puts it at the end of the log held.
+ *
+ * In:   s           the session; never NULL
+ *       buf         its buffer, len bytes, as the call before left them; never NULL, not even if len
+ *                   is 0
+ *       len         any length; YR_LOG_MAX is enough for all that can be fed
+ *       record      the record_len bytes of the record from its length byte on, apart from the
+ *                   session and the buffer; never NULL, not even if record_len is 0
+ *       record_len  any length; above YR_RECORD_MAX every record is refused
+ * Out:  accepted, with the number of bytes that the log has grown by, which is 1 + L; otherwise one
+ *       of the refusals below.
+ *
+ * The first test that fails decides, in this order, where n is the number of records held:
+ *
+ *     25  the session does not fit its buffer (index 0)
+ *     20  the session is closed (index 0)
+ *     21  n is 1,024 (index 0)
+ *     1   the record has no bytes, or not 1 + L of them (index n)
+ *     5   L is 0 (index n)
+ *     4   the kind is not one of 1 to 5 (index n)
+ *     5   L is not the kind's (index n)
+ *     6   the tick is below that of the last record held (index n)
+ *     7   a call, and the client has an open call (index n)
+ *     8   a return, and the client has no open call of that operation (index n)
+ *     9   a call of add, and a record held calls to add the same value (index n)
+ *     24  len is below the used bytes and 1 + L more (index 0)
+ *
+ * An accepted call writes the record right behind the used bytes, the new n to bytes 1 and 2 of the
+ * buffer and the new number of used bytes to the session, and leaves all else as it was; a refused
+ * one leaves the session and the buffer as they were. The record is never written to. Less than
+ * 16 KiB of stack is used (12.8 KB measured).
+ */
+yr_answer yr_feed(yr_session *s, uint8_t *buf, size_t len, const uint8_t *record,
+                  size_t record_len);
+
+/*
+ * Closes a session: judges the log held and writes the sheet of its verdict.
+ *
+ * In:   s          the session; never NULL
+ *       buf        its buffer, len bytes, as the call before left them; never NULL, not even if len
+ *                  is 0
+ *       len        any length
+ *       sheet      sheet_len bytes to write to, apart from the session and its buffer; never NULL,
+ *                  not even if sheet_len is 0; what they hold before does not matter
+ *       sheet_len  any length; YR_SHEET_MAX is always enough
+ * Out:  accepted, with the number of bytes written, which is 4 + 2k, at most YR_SHEET_MAX; otherwise
+ *       one of the refusals below.
+ *
+ * The first test that fails decides, in this order:
+ *
+ *     25  the session does not fit its buffer (index 0)
+ *     20  the session is closed (index 0)
+ *     10  a remove has no return (index of the earliest call of such a remove)
+ *     24  sheet_len is below 4 + 2k (index 0)
+ *
+ * An accepted call sets the stage to YR_CLOSED and leaves the used bytes as they were; it writes the
+ * first 4 + 2k bytes of the sheet and leaves those behind them as they were. A refused one leaves
+ * the session and the sheet as they were, so that an open session stays open. The session's buffer
+ * is never written to. Less than 64 KiB of stack is used (49.5 KB measured).
+ */
+yr_answer yr_close(yr_session *s, const uint8_t *buf, size_t len, uint8_t *sheet,
+                   size_t sheet_len);
+
+/*
+ * Writes the sheet of a closed session again.
+ *
+ * In:   s          the session; never NULL
+ *       buf        its buffer, len bytes, as the call before left them; never NULL, not even if len
+ *                  is 0
+ *       len        any length
+ *       sheet      sheet_len bytes to write to, apart from the session and its buffer; never NULL,
+ *                  not even if sheet_len is 0; what they hold before does not matter
+ *       sheet_len  any length; YR_SHEET_MAX is always enough
+ * Out:  accepted, with the number of bytes written, which is 4 + 2k, at most YR_SHEET_MAX; otherwise
+ *       one of the refusals below.
+ *
+ * The first test that fails decides, in this order:
+ *
+ *     25  the session does not fit its buffer (index 0)
+ *     22  the session is open (index 0)
+ *     24  sheet_len is below 4 + 2k (index 0)
+ *
+ * An accepted call writes the first 4 + 2k bytes of the sheet and leaves those behind them as they
+ * were; a refused one leaves all as they were. The session and its buffer are never written to. Less
+ * than 64 KiB of stack is used (49.5 KB measured).
+ */
+yr_answer yr_sheet(const yr_session *s, const uint8_t *buf, size_t len, uint8_t *sheet,
+                   size_t sheet_len);
+
+/*
+ * Makes the excerpt of the log of a closed session, if that has a pattern.
+ *
+ * In:   s        the session; never NULL
+ *       buf      its buffer, len bytes, as the call before left them; never NULL, not even if len is
+ *                0
+ *       len      any length
+ *       out      out_len bytes to write to, apart from the session and its buffer; never NULL, not
+ *                even if out_len is 0; what they hold before does not matter
+ *       out_len  any length; the number of used bytes is always enough, and so is YR_LOG_MAX
+ * Out:  accepted, with the number of bytes written, which are those of the excerpt; otherwise one of
+ *       the refusals below.
+ *
+ * The first test that fails decides, in this order:
+ *
+ *     25  the session does not fit its buffer (index 0)
+ *     22  the session is open (index 0)
+ *     23  the verdict on the log is an order, whatever out_len is (index 0)
+ *     24  out_len is below the length of the excerpt (index 0)
+ *
+ * An accepted call writes the bytes of the excerpt and leaves those behind them as they were; a
+ * refused one leaves all as they were. The session and its buffer are never written to. Less than
+ * 64 KiB of stack is used (54.7 KB measured).
+ */
+yr_answer yr_session_excerpt(const yr_session *s, const uint8_t *buf, size_t len, uint8_t *out,
+                             size_t out_len);
 
 #ifdef __cplusplus
 }

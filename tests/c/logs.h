@@ -74,6 +74,15 @@ static inline void log_record(struct log *log, enum kind kind, unsigned client, 
     log_set_n(log, log->records);
 }
 
+/* Where record i of the log begins; behind the last record, where that ends. */
+static inline size_t log_start(const struct log *log, unsigned i)
+{
+    size_t start = 3;
+    while (i-- > 0)
+        start += 1u + log->bytes[start];
+    return start;
+}
+
 /* n adds that never return, a client each. */
 static inline void log_pending_adds(struct log *log, unsigned n)
 {

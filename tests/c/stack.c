@@ -17,6 +17,7 @@
 
 #include "count.h"
 #include "logs.h"
+#include "sessions.h"
 #include "sheets.h"
 #include "yauponroof.h"
 
@@ -90,6 +91,47 @@ static yr_answer use_narrow(const struct log *log, const struct sheet *sheet)
                      sizeof written);
 }
 
+/* What the entries of sessions are lent. */
+static struct held held;
+
+static yr_answer use_begin(const struct log *log, const struct sheet *sheet)
+{
+    (void)log;
+    (void)sheet;
+    return yr_begin(&held.session, held.bytes, sizeof held.bytes);
+}
+
+/* Feeds the last record of the log to the session that holds the others. */
+static yr_answer use_feed(const struct log *log, const struct sheet *sheet)
+{
+    (void)sheet;
+    hold(&held, YR_OPEN, log, log->records - 1);
+    const uint8_t *record = log->bytes + held.session.used;
+    return yr_feed(&held.session, held.bytes, sizeof held.bytes, record, 1u + record[0]);
+}
+
+static yr_answer use_close(const struct log *log, const struct sheet *sheet)
+{
+    (void)sheet;
+    hold(&held, YR_OPEN, log, log->records);
+    return yr_close(&held.session, held.bytes, sizeof held.bytes, written, YR_SHEET_MAX);
+}
+
+static yr_answer use_sheet(const struct log *log, const struct sheet *sheet)
+{
+    (void)sheet;
+    hold(&held, YR_CLOSED, log, log->records);
+    return yr_sheet(&held.session, held.bytes, sizeof held.bytes, written, YR_SHEET_MAX);
+}
+
+static yr_answer use_session_excerpt(const struct log *log, const struct sheet *sheet)
+{
+    (void)sheet;
+    hold(&held, YR_CLOSED, log, log->records);
+    return yr_session_excerpt(&held.session, held.bytes, sizeof held.bytes, written,
+                              sizeof written);
+}
+
 static void *run(void *argument)
 {
     struct call *call = argument;
@@ -160,6 +202,17 @@ static const struct entry excerpt = {
     "yr_excerpt", use_excerpt, 64 * 1024, "yr_excerpt stays under 64 KiB of stack"};
 static const struct entry narrow = {
     "yr_narrow", use_narrow, 64 * 1024, "yr_narrow stays under 64 KiB of stack"};
+static const struct entry begin = {
+    "yr_begin", use_begin, 16 * 1024, "yr_begin stays under 16 KiB of stack"};
+static const struct entry feed = {
+    "yr_feed", use_feed, 16 * 1024, "yr_feed stays under 16 KiB of stack"};
+static const struct entry close_session = {
+    "yr_close", use_close, 64 * 1024, "yr_close stays under 64 KiB of stack"};
+static const struct entry session_sheet = {
+    "yr_sheet", use_sheet, 64 * 1024, "yr_sheet stays under 64 KiB of stack"};
+static const struct entry session_excerpt = {
+    "yr_session_excerpt", use_session_excerpt, 64 * 1024,
+    "yr_session_excerpt stays under 64 KiB of stack"};
 
 /* Measures an entry on a log and a sheet, which must be answered as told. */
 static void measure_entry(const struct entry *entry, const struct log *log,
@@ -183,6 +236,21 @@ static uint32_t length_of_values(const struct log *log)
     return (uint32_t)length;
 }
 
+/* Measures the entries of sessions on a readable log. So many operations are listed, and this is the
+   answer for the excerpt. */
+static void measure_session(const struct log *log, uint32_t listed, uint32_t refusal, uint32_t kept,
+                            const char *name)
+{
+    measure_entry(&begin, log, NULL, 0, 3, name);
+    if (log->records > 0) {
+        uint32_t last = (uint32_t)(log->length - log_start(log, log->records - 1));
+        measure_entry(&feed, log, NULL, 0, last, name);
+    }
+    measure_entry(&close_session, log, NULL, 0, SHEET_HEADER + 2 * listed, name);
+    measure_entry(&session_sheet, log, NULL, 0, SHEET_HEADER + 2 * listed, name);
+    measure_entry(&session_excerpt, log, NULL, refusal, kept, name);
+}
+
 /* Measures all entries on a log of a correct queue, with an order that is legal. The judge lists so
    many of its operations. */
 static void measure_all(const struct log *log, const struct sheet *order, uint32_t operations,
@@ -193,6 +261,7 @@ static void measure_all(const struct log *log, const struct sheet *order, uint32
     measure_entry(&judge, log, order, 0, SHEET_HEADER + 2 * listed, name);
     measure_entry(&excerpt, log, order, YR_REFUSAL_ORDER, 0, name);
     measure_entry(&narrow, log, order, 0, length_of_values(log), name);
+    measure_session(log, listed, YR_REFUSAL_ORDER, 0, name);
 }
 
 /* Measures the entries that write on a log with a pattern that lists so many operations. So many
@@ -202,6 +271,7 @@ static void measure_pattern(const struct log *log, uint32_t listed, uint32_t kep
     measure_entry(&judge, log, NULL, 0, SHEET_HEADER + 2 * listed, name);
     measure_entry(&excerpt, log, NULL, 0, kept, name);
     measure_entry(&narrow, log, NULL, 0, length_of_values(log), name);
+    measure_session(log, listed, 0, kept, name);
 }
 
 static void measure_patterns(struct log *log, struct sheet *order)
@@ -265,6 +335,24 @@ static void measure_refused_logs(struct log *log, struct sheet *sheet)
     measure_refused(log, sheet, YR_REFUSAL_PENDING_REMOVE, 1023, "a remove that never returns");
 }
 
+/* Measures the entries of sessions where they refuse. */
+static void measure_refused_sessions(struct log *log)
+{
+    log_pending_adds(log, 1023);
+    log_record(log, CALL_ADD, 1023, 0);
+    measure_entry(&feed, log, NULL, YR_REFUSAL_VALUE, 1023, "the 1,024th add repeats a value");
+    measure_entry(&close_session, log, NULL, YR_REFUSAL_SESSION, 0, "a value is held twice");
+    measure_entry(&session_sheet, log, NULL, YR_REFUSAL_SESSION, 0, "a value is held twice");
+    measure_entry(&session_excerpt, log, NULL, YR_REFUSAL_SESSION, 0, "a value is held twice");
+    log_pending_adds(log, 1025);
+    measure_entry(&feed, log, NULL, YR_REFUSAL_FULL, 0, "the 1,025th add");
+    log_pending_adds(log, 1023);
+    log_record(log, CALL_REMOVE, 1023, 0);
+    measure_entry(&feed, log, NULL, 0, 1 + 7, "a remove that never returns");
+    measure_entry(&close_session, log, NULL, YR_REFUSAL_PENDING_REMOVE, 1023,
+                  "a remove that never returns");
+}
+
 /* Sheets for 512 operations of a correct queue that are not legal, or not even an order. */
 static void measure_other_sheets(struct log *log, struct sheet *sheet)
 {
@@ -306,5 +394,6 @@ int main(void)
     measure_patterns(&log, &order);
     measure_other_sheets(&log, &order);
     measure_refused_logs(&log, &order);
+    measure_refused_sessions(&log);
     return counted();
 }

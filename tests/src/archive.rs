@@ -125,7 +125,8 @@ fn compare_order(log: &[u8], operations: &[Operation]) {
     assert_eq!(excerpt_made(log), refusal, "of {}", show(log));
 }
 
-fn lists_pending_adds_exactly_if_removed(operations: &[Operation], order: &[u16]) -> bool {
+/// "The judge lists an open add exactly if its value was removed."
+pub fn lists_pending_adds_exactly_if_removed(operations: &[Operation], order: &[u16]) -> bool {
     let is_removed = |value| {
         let remove = Action::Remove(Removed::Value(value));
         operations.iter().any(|o| o.action == remove)

@@ -133,6 +133,23 @@ impl Fenced {
         });
     }
 
+    /// Lends a copy of the bytes, laid at that place, for a call to change; what they are then.
+    /// Asserts that all others of the room are as before.
+    pub fn changed(&mut self, bytes: &[u8], place: Place, call: impl FnOnce(&mut [u8])) -> Vec<u8> {
+        let at = self.offset(bytes.len(), place);
+        self.mapping
+            .protect(page(), self.room, PROT_READ | PROT_WRITE);
+        let room = unsafe { slice::from_raw_parts_mut(self.mapping.start.add(page()), self.room) };
+        room.fill(FILLS[0]);
+        let lent = at..at + bytes.len();
+        room[lent.clone()].copy_from_slice(bytes);
+        call(&mut room[lent.clone()]);
+        let is_unchanged = |bytes: &[u8]| bytes.iter().all(|&byte| byte == FILLS[0]);
+        assert!(is_unchanged(&room[..at]), "bytes before a buffer");
+        assert!(is_unchanged(&room[lent.end..]), "bytes behind a buffer");
+        room[lent].to_vec()
+    }
+
     /// Lends `length` bytes, laid at that place, for a call to write to: those that it says it
     /// wrote, or its refusal. Asserts that all others of the room are as before; of a refused call,
     /// all.

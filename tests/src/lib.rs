@@ -1,8 +1,9 @@
 //! The library as its callers see it, and what the tests hold it against: a reader, a test of
-//! orders, a search for one, a table of patterns, excerpts and narrowings of their own; builders of
-//! logs and sheets; and a count of the answers seen.
+//! orders, a search for one, a table of patterns, excerpts, narrowings and sessions of their own;
+//! builders of logs, sheets and scripts of sessions; and a count of the answers seen.
 
 pub mod archive;
+pub mod author;
 pub mod build;
 pub mod changed_logs;
 pub mod clients;
@@ -11,6 +12,7 @@ pub mod enumerate;
 pub mod fenced;
 pub mod guarded;
 pub mod history;
+pub mod lent_session;
 pub mod linearization;
 pub mod lists;
 pub mod moments;
@@ -22,7 +24,11 @@ pub mod random;
 pub mod reader;
 pub mod relay;
 pub mod samples;
+pub mod script;
 pub mod search;
+pub mod session;
+pub mod session_whole;
+pub mod sessions;
 pub mod sheet;
 pub mod simulation;
 pub mod spoil;
@@ -35,6 +41,16 @@ pub enum Answer {
     Accepted(u32),
     /// A refusal of document 01 with the index of the record at fault.
     Refused { number: u32, index: u32 },
+}
+
+/// What the library keeps of a session: the numbers that its callers hold for it.
+#[repr(C)]
+#[derive(Clone, Copy, Debug, PartialEq, Eq)]
+pub struct Session {
+    /// 0 open, 1 closed.
+    pub stage: u32,
+    /// How many bytes of the lent buffer hold the log.
+    pub used: u32,
 }
 
 /// Replay's answer to an order that is legal for the log, and to any other.
@@ -51,6 +67,35 @@ extern "C" {
         log_len: usize,
         values: *const u32,
         count: usize,
+        out: *mut u8,
+        out_len: usize,
+    ) -> u64;
+    fn yr_begin(session: *mut Session, buffer: *mut u8, length: usize) -> u64;
+    fn yr_feed(
+        session: *mut Session,
+        buffer: *mut u8,
+        length: usize,
+        record: *const u8,
+        record_len: usize,
+    ) -> u64;
+    fn yr_close(
+        session: *mut Session,
+        buffer: *const u8,
+        length: usize,
+        sheet: *mut u8,
+        sheet_len: usize,
+    ) -> u64;
+    fn yr_sheet(
+        session: *const Session,
+        buffer: *const u8,
+        length: usize,
+        sheet: *mut u8,
+        sheet_len: usize,
+    ) -> u64;
+    fn yr_session_excerpt(
+        session: *const Session,
+        buffer: *const u8,
+        length: usize,
         out: *mut u8,
         out_len: usize,
     ) -> u64;
@@ -88,6 +133,63 @@ pub fn narrow(log: &[u8], values: &[u32], out: &mut [u8]) -> Answer {
             log.len(),
             values.as_ptr(),
             values.len(),
+            out.as_mut_ptr(),
+            out.len(),
+        )
+    })
+}
+
+/// Begins a session with the library: the number of bytes written, or a refusal.
+pub fn begin(session: &mut Session, buffer: &mut [u8]) -> Answer {
+    answer(unsafe { yr_begin(session, buffer.as_mut_ptr(), buffer.len()) })
+}
+
+/// Feeds a record to a session of the library: the number of bytes written, or a refusal.
+pub fn feed(session: &mut Session, buffer: &mut [u8], record: &[u8]) -> Answer {
+    answer(unsafe {
+        yr_feed(
+            session,
+            buffer.as_mut_ptr(),
+            buffer.len(),
+            record.as_ptr(),
+            record.len(),
+        )
+    })
+}
+
+/// Closes a session of the library: the number of bytes written to the sheet, or a refusal.
+pub fn close(session: &mut Session, buffer: &[u8], sheet: &mut [u8]) -> Answer {
+    answer(unsafe {
+        yr_close(
+            session,
+            buffer.as_ptr(),
+            buffer.len(),
+            sheet.as_mut_ptr(),
+            sheet.len(),
+        )
+    })
+}
+
+/// Writes the sheet of a closed session of the library: the number of bytes, or a refusal.
+pub fn session_sheet(session: &Session, buffer: &[u8], sheet: &mut [u8]) -> Answer {
+    answer(unsafe {
+        yr_sheet(
+            session,
+            buffer.as_ptr(),
+            buffer.len(),
+            sheet.as_mut_ptr(),
+            sheet.len(),
+        )
+    })
+}
+
+/// Makes the excerpt of a closed session of the library: the number of bytes, or a refusal.
+pub fn session_excerpt(session: &Session, buffer: &[u8], out: &mut [u8]) -> Answer {
+    answer(unsafe {
+        yr_session_excerpt(
+            session,
+            buffer.as_ptr(),
+            buffer.len(),
             out.as_mut_ptr(),
             out.len(),
         )

@@ -1,7 +1,7 @@
 //! The vectors that lie beside the repository, where they do. Every line that hands in a log tells
 //! whether the reader takes it, and many tell what replay answers: those that call it, and those in
 //! which the judge or the program lists an order. The lines of judge, excerpt and narrow tell what
-//! these write.
+//! these write, and those of sessions what each step answers and how all stands in the end.
 
 use std::io::{stderr, Write};
 use std::path::{Path, PathBuf};
@@ -10,6 +10,8 @@ use yauponroof_tests::build::hex;
 use yauponroof_tests::compare::{Replays, Tally};
 use yauponroof_tests::guarded::written_twice;
 use yauponroof_tests::reader::LOG_MAX;
+use yauponroof_tests::script::{play, Given, Step};
+use yauponroof_tests::sessions::{Compared, Entry};
 use yauponroof_tests::sheet::{order_on, sheet, ORDER};
 use yauponroof_tests::{excerpt, judge, narrow, refused, replay, Answer, NO, YES};
 
@@ -37,8 +39,13 @@ fn vectors() -> PathBuf {
     Path::new(env!("CARGO_MANIFEST_DIR")).join("../../shared/vectors/document-01.txt")
 }
 
-/// Calls `visit` with every line that hands in a log, if the vectors are there.
-fn visit_lines(visit: impl FnMut(Line)) -> bool {
+/// Calls `visit` with every line that hands in a log as a whole, if the vectors are there.
+fn visit_lines(mut visit: impl FnMut(Line)) -> bool {
+    visit_texts(|text| parse(text).into_iter().for_each(&mut visit))
+}
+
+/// Calls `visit` with every line that is no comment, if the vectors are there.
+fn visit_texts(visit: impl FnMut(&str)) -> bool {
     if !vectors().is_file() {
         // Written past the capture of the test's output, so that it is seen.
         writeln!(
@@ -50,15 +57,15 @@ fn visit_lines(visit: impl FnMut(Line)) -> bool {
         return false;
     }
     let text = std::fs::read_to_string(vectors()).expect("the vectors");
-    text.lines().filter_map(parse).for_each(visit);
+    let is_comment = |text: &&str| text.is_empty() || text.starts_with('#');
+    text.lines()
+        .filter(|text| !is_comment(text))
+        .for_each(visit);
     true
 }
 
-/// Comments and lines of sessions hand in no log as a whole.
+/// Lines of sessions hand in no log as a whole.
 fn parse(text: &str) -> Option<Line<'_>> {
-    if text.is_empty() || text.starts_with('#') {
-        return None;
-    }
     let (request, answer) = text.split_once(" => ").expect("a request and an answer");
     let (entry, request) = request.split_once(' ').expect("an entry and a request");
     let mut fields = request.split_whitespace();
@@ -301,5 +308,117 @@ fn narrowings_are_what_the_vectors_say() {
     });
     if is_there {
         lines.assert_compared(6, 0, 70);
+    }
+}
+
+/// A field of a step, such as the 3 of "used:3".
+fn number_of<T: std::str::FromStr>(field: &str) -> T {
+    let number = field.parse();
+    number.unwrap_or_else(|_| panic!("a decimal number, not {field}"))
+}
+
+/// The step that a word of a session's line stands for.
+fn step(word: &str) -> Step {
+    let fields: Vec<&str> = word.split(':').collect();
+    match fields[..] {
+        ["begin"] => Step::Begin,
+        ["feed", record] => Step::Feed(bytes(Some(record))),
+        ["close"] => Step::Close(LOG_MAX),
+        ["close", length] => Step::Close(number_of(length)),
+        ["sheet"] => Step::Sheet(LOG_MAX),
+        ["sheet", length] => Step::Sheet(number_of(length)),
+        ["excerpt"] => Step::Excerpt(LOG_MAX),
+        ["excerpt", length] => Step::Excerpt(number_of(length)),
+        ["stage", stage] => Step::Stage(number_of(stage)),
+        ["used", used] => Step::Used(number_of(used)),
+        ["poke", at, poked] => Step::Poke(number_of(at), bytes(Some(poked))),
+        _ => panic!("a step of no known form: {word}"),
+    }
+}
+
+/// A session with the buffer that the first word of a line lends.
+fn lent_session(word: &str) -> Compared {
+    match word.split_once(':') {
+        Some(("len", length)) => Compared::filled(number_of(length), 0xAA),
+        Some(("buf", digits)) => {
+            let lent = bytes(Some(digits));
+            let mut session = Compared::new(lent.len());
+            session.tamper(|state| state.buffer = lent);
+            session
+        }
+        _ => panic!("no buffer is lent by {word}"),
+    }
+}
+
+/// Bytes as the vectors tell them.
+fn digits(bytes: &[u8]) -> String {
+    match bytes {
+        [] => ".".to_string(),
+        _ => bytes.iter().map(|byte| format!("{byte:02x}")).collect(),
+    }
+}
+
+/// What a step gave, as the vectors tell it; none for tampering.
+fn told(given: &Given) -> Option<String> {
+    let (entry, _) = given.answer()?;
+    let name = match entry {
+        Entry::Begin => "begin",
+        Entry::Feed => "feed",
+        Entry::Close => "close",
+        Entry::Sheet => "sheet",
+        Entry::Excerpt => "excerpt",
+    };
+    Some(match given {
+        Given::Wrote(_, Ok(bytes)) => format!("{name} {}", digits(bytes)),
+        Given::Answered(_, Answer::Accepted(count)) => format!("{name} {count}"),
+        Given::Answered(_, Answer::Refused { number, index })
+        | Given::Wrote(_, Err(Answer::Refused { number, index })) => {
+            format!("{name} refused {number} {index}")
+        }
+        other => panic!("no answer: {other:?}"),
+    })
+}
+
+/// Plays the steps of a session's line; its answers and how the session stands in the end.
+fn played(steps: &str) -> String {
+    let (buffer, steps) = steps.split_once(' ').expect("a buffer and steps");
+    let mut session = lent_session(buffer);
+    let mut answers = Vec::new();
+    for step in steps.split_whitespace().map(step) {
+        answers.extend(told(&play(&mut session, &step)));
+    }
+    let state = session.state();
+    let (stage, used) = (state.session.stage, state.session.used);
+    answers.push(format!("state {stage} {used} {}", digits(&state.buffer)));
+    answers.join("; ")
+}
+
+/// The answer of a session's line without the marks of bookmarks, which are not there yet: the
+/// fourth word of what it says last.
+fn without_marks(answer: &str) -> String {
+    let (answers, state) = answer.rsplit_once("state ").expect("a state");
+    let fields: Vec<&str> = state.split_whitespace().collect();
+    let [stage, used, _, buffer] = fields[..] else {
+        panic!("a state of no known form: {state}");
+    };
+    format!("{answers}state {stage} {used} {buffer}")
+}
+
+#[test]
+fn sessions_answer_as_the_vectors_say() {
+    let mut lines = 0;
+    let is_there = visit_texts(|text| {
+        if let Some(line) = text.strip_prefix("session ") {
+            let (steps, answer) = line.split_once(" => ").expect("steps and answers");
+            assert_eq!(
+                played(steps),
+                without_marks(answer),
+                "left: played, of {text}"
+            );
+            lines += 1;
+        }
+    });
+    if is_there {
+        assert!(lines >= 53, "only {lines} lines were played");
     }
 }

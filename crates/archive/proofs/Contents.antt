@@ -18,6 +18,7 @@ use Rattle.history.specs.Sheet.{orderVerdict, sheetOf, listedOn}
 use Rattle.history.proofs.Sheets.{sheet-lists}
 use Rattle.violations.specs.Violations.{NoViolation}
 use Rattle.violations.specs.Verdict as violations
+use Rattle.violations.specs.Search.{Found}
 use Rattle.violations.proofs.Laws.{SomeViolation, first-violation, first-violation-one, verdict-known}
 use Rattle.judge.specs.Judge.{sheetBytes, Accepted, order, pattern, Judges, judged, turned-down}
 use Rattle.judge.specs.declared.judge.Verdict.{Verdict}
@@ -28,30 +29,31 @@ use Rattle.projection.specs.Outcome.{excerptAnswerOf, excerptLeavesOf}
 use Rattle.projection.specs.declared.write.Projected.the-variants.{Written, Refused}
 use Rattle.archive.specs.Archive.{verdictByte, Archive, with-order, with-pattern}
 
--- The sheet of an archive: the log is readable, and the sheet holds its verdict.
+-- The sheet of an archive: the log is readable, and the sheet holds its verdict, an order as the search finds it.
 pub record Contents (log sheet : List ℕ) : Type 0 where
   pub records : List Record
   pub reads : readLog log ≡ readable records
   pub verdict : violations.Verdict (historyOf records) (verdictByte sheet) (listedOn sheet)
+  pub chosen : verdictByte sheet ≡ orderVerdict → Found (historyOf records) (listedOn sheet)
   -- the sheet has no other bytes
   pub whole : sheet ≡ sheetOf (verdictByte sheet) (listedOn sheet)
 
 -- a sheet that judging wrote
 sheet-contents : (log : List ℕ) (records : List Record) → readLog log ≡ readable records → {byte : ℕ} {listed sheet : List ℕ} → violations.Verdict (historyOf records) byte listed
-    → sheet ≡ sheetOf byte listed → Contents log sheet
-sheet-contents log records reads {byte} {listed} {sheet} verdict e =
+    → (byte ≡ orderVerdict → Found (historyOf records) listed) → sheet ≡ sheetOf byte listed → Contents log sheet
+sheet-contents log records reads {byte} {listed} {sheet} verdict chosen e =
     let small : Within (readable records) = rw reads at (within log) in
     let known : operations records ≤ maxRecords = omega (arith, few-operations records) in
     let few : length listed < 65536 = omega (arith, verdict-at-most log reads verdict) in
     let lists : listedOn sheet ≡ listed = ap listedOn e ∙ sheet-lists byte listed few (λ i. omega (arith, verdict-known known verdict i)) in
     let says : verdictByte sheet ≡ byte = ap verdictByte e in
-    record { records = records; reads = reads; verdict = rw (lists, says) verdict; whole = rw (lists, says) e }
+    record { records = records; reads = reads; verdict = rw (lists, says) verdict; chosen = rw (lists, says) chosen; whole = rw (lists, says) e }
 
 judged-contents : (log : List ℕ) {buffer left : List ℕ} {answer : Verdict} → Accepted answer → Judges (readLog log) buffer answer left → Contents log (take (sheetBytes answer) left)
 judged-contents log accepted j = go (readLog log) refl accepted j
   where
     go : (reading : Reading) → readLog log ≡ reading → {buffer left : List ℕ} {answer : Verdict} → Accepted answer → Judges reading buffer answer left → Contents log (take (sheetBytes answer) left)
-    go (readable records) reads accepted (judged j) = let shown = judged-shows j accepted in sheet-contents log records reads (shown .verdict) (shown .holds)
+    go (readable records) reads accepted (judged j) = let shown = judged-shows j accepted in sheet-contents log records reads (shown .verdict) (shown .chosen) (shown .holds)
     go (refused number index) reads accepted turned-down = absurd (accepted-not-refused accepted refl)
 
 -- the verdict byte of an order

@@ -15,6 +15,7 @@ use Rattle.history.specs.Sheet.{orderVerdict, sheetOf}
 use Rattle.history.proofs.Laws.{history-lawful}
 use Rattle.violations.specs.Violations.{NoViolation}
 use Rattle.violations.specs.Verdict as violations
+use Rattle.violations.specs.Search.{Found}
 use Rattle.violations.proofs.Laws.{SomeViolation, first-violation, first-violation-one, occurs-numbered, verdict}
 use Rattle.judge.specs.Judge.{verdictOf, Delivers, Judges, judged}
 use Rattle.judge.specs.declared.judge.Verdict.the-variants.{Pattern}
@@ -25,13 +26,14 @@ use Rattle.archive.specs.Archive.{Archive, with-order, with-pattern}
 
 module _ (log : List ℕ) (records : List Record) (reads : readLog log ≡ readable records) where
   -- a verdict is judged into a sheet that is as long as its own
-  judges-own : {byte : ℕ} {listed : List ℕ} → violations.Verdict (historyOf records) byte listed → (left : List ℕ) × Judges (readLog log) (sheetOf byte listed) (verdictOf byte (length listed)) left
-  judges-own {byte} {listed} v =
+  judges-own : {byte : ℕ} {listed : List ℕ} → violations.Verdict (historyOf records) byte listed → (byte ≡ orderVerdict → Found (historyOf records) listed)
+      → (left : List ℕ) × Judges (readLog log) (sheetOf byte listed) (verdictOf byte (length listed)) left
+  judges-own {byte} {listed} v chosen =
       let fits = le-ltb (length (sheetOf byte listed)) (length (sheetOf byte listed)) (omega arith) in
       let delivers : Delivers byte listed (sheetOf byte listed) (verdictOf byte (length listed)) (written (sheetOf byte listed) (sheetOf byte listed)) =
       record { answers = rw fits refl; leaves = refl } in
       let own : Judges (readable records) (sheetOf byte listed) (verdictOf byte (length listed)) (written (sheetOf byte listed) (sheetOf byte listed)) =
-      judged (record { byte = byte; listed = listed; verdict = v; delivers = delivers }) in
+      judged (record { byte = byte; listed = listed; verdict = v; chosen = chosen; delivers = delivers }) in
       (written (sheetOf byte listed) (sheetOf byte listed), rw reads own)
 
   -- the excerpt fits into a buffer that is as long as it
@@ -43,12 +45,13 @@ module _ (log : List ℕ) (records : List Record) (reads : readLog log ≡ reada
       rw (first-violation-one first found .1, le-ltb (length bytes) (length bytes) (omega arith)) refl
 
   pub archive-exists : (sheet : List ℕ) × (excerpt : List ℕ) × Archive log sheet excerpt
-  archive-exists = let (byte, listed, v) = verdict (history-lawful (readable-log log records reads)) in go v
+  archive-exists = let (byte, listed, v, chosen) = verdict (history-lawful (readable-log log records reads)) in go v chosen
     where
-      go : {byte : ℕ} {listed : List ℕ} → violations.Verdict (historyOf records) byte listed → (sheet : List ℕ) × (excerpt : List ℕ) × Archive log sheet excerpt
-      go (violations.Verdict.linearization x) = let (left, j) = judges-own (violations.Verdict.linearization x) in (_, _, with-order j)
-      go {byte} {listed} (violations.Verdict.violation x) =
-          let (left, j) = judges-own (violations.Verdict.violation x) in
+      go : {byte : ℕ} {listed : List ℕ} → violations.Verdict (historyOf records) byte listed → (byte ≡ orderVerdict → Found (historyOf records) listed)
+          → (sheet : List ℕ) × (excerpt : List ℕ) × Archive log sheet excerpt
+      go (violations.Verdict.linearization x) chosen = let (left, j) = judges-own (violations.Verdict.linearization x) chosen in (_, _, with-order j)
+      go {byte} {listed} (violations.Verdict.violation x) chosen =
+          let (left, j) = judges-own (violations.Verdict.violation x) chosen in
           let named : verdictOf byte (length listed) ≡ Pattern byte (length listed) = rw (ne-eqb byte orderVerdict (λ e. omega (arith, occurs-numbered (x .occurs)))) refl in
           let wrote : excerptAnswer (readLog log) (encodeLog (excerpted records listed)) ≡ Written (length (encodeLog (excerpted records listed))) = rw reads (excerpt-own x (first-violation (historyOf records))) in
           (_, _, with-pattern (rw named at j) (encodeLog (excerpted records listed)) wrote)

@@ -25,8 +25,9 @@ use Rattle.archive.specs.Archive.{verdictByte, Archive}
 use Rattle.archive.specs.Trade.{traded, Traded}
 use Rattle.archive.proofs.Contents.{archive-contents, archive-excerpt}
 use Rattle.archive.proofs.Traded.{TradedBytes, traded-bytes, traded-readable, traded-verdict}
--- Every readable log has an archive.
+-- Every readable log has an archive, and only one.
 pub use Rattle.archive.proofs.Existing.{archive-exists}
+pub use Rattle.archive.proofs.Only.{archive-one}
 
 -- What the sheet of an archive holds: the verdict of the log's history, in the form that document 01 gives, and nothing else.
 pub verdict-is : {log sheet excerpt : List ℕ} {records : List Record} → readLog log ≡ readable records → Archive log sheet excerpt

@@ -14,8 +14,8 @@ use Rattle.projection.specs.declared.write.Projected.the-variants.{Written}
 abbrev pub verdictByte : List ℕ → ℕ
 verdictByte sheet = getD sheet 1 0
 
--- A log may have this sheet and this excerpt for its archive: some judging of it, into a buffer that is long enough, writes the sheet; with a pattern
--- the excerpt call, with a buffer that is long enough, writes the excerpt, and with an order there is none.
+-- A log has this sheet and this excerpt for its archive: judging it, into a buffer that is long enough, writes the sheet; with a pattern the
+-- excerpt call, with a buffer that is long enough, writes the excerpt, and with an order there is none.
 pub data Archive (log : List ℕ) : List ℕ → List ℕ → Type 0 where
   with-order : {buffer left : List ℕ} {k : ℕ} → Judges (readLog log) buffer (Order k) left → Archive log (take (sheetBytes (Order k)) left) []
   with-pattern : {buffer left : List ℕ} {number k written : ℕ} → Judges (readLog log) buffer (Pattern number k) left → (out : List ℕ)

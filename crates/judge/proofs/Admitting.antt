@@ -81,6 +81,7 @@ admitting-ends {h} {s} {before} {a} {waiting} held m closed = record {
           searched = stands .searched;
           waits = waits;
           placed-below = λ o at. omega (arith, stands .placed-below o at, m .onward);
+          built = stands .built;
         };
         enabling = waits-enabling (held .lawful) waits (m .room .next-within) (m .least) closed;
       };

@@ -18,7 +18,7 @@ use Rattle.history.proofs.Agreeing.{agree-sym}
 use Rattle.history.proofs.Laws.{history-lawful}
 use Rattle.history.proofs.Sheets.{sheet-length}
 use Rattle.history.proofs.Tabulating.{Tabled}
-use Rattle.violations.proofs.Laws.{verdict-small, agree-lawful, agree-verdict}
+use Rattle.violations.proofs.Laws.{verdict-small, agree-lawful, agree-verdict, agree-found}
 use Rattle.judge.specs.Held.{Held}
 use Rattle.judge.specs.Decision.{Decided}
 use Rattle.judge.specs.Judge.{Delivers, Judges, judged, turned-down}
@@ -57,7 +57,7 @@ module _ (byte : ℕ) (list : List ℕ) (k : ℕ) (within : k ≤ length list) (
 -- a readable log is judged
 pub log-judged : {log : List ℕ} {count end byte k : ℕ} {table list sheet sheet' : List ℕ} {answer : Verdict} → Tabled log count end table → Decided (tabled count end table) byte k list
     → Delivers byte (take k list) sheet answer sheet' → Judges (readLog log) sheet answer sheet'
-log-judged {byte = byte} {k = k} {list = list} t decided delivers = rw (t .reads) (judged (record { byte = byte; listed = take k list; verdict = agree-verdict (t .agree) (decided .verdict); delivers = delivers }))
+log-judged {byte = byte} {k = k} {list = list} t decided delivers = rw (t .reads) (judged (record { byte = byte; listed = take k list; verdict = agree-verdict (t .agree) (decided .verdict); chosen = λ e. agree-found (t .agree) (decided .chosen e); delivers = delivers }))
 
 -- any other is refused
 pub log-refused : (log sheet : List ℕ) {answer : Checked} {number index : ℕ} → answer ≡ checked (readLog log) → answer ≡ check.Refused number index → Judges (readLog log) sheet (Refused number index) sheet

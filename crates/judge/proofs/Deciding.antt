@@ -11,12 +11,13 @@ use Rattle.reader.specs.Choice.{if_then_else_}
 use Rattle.reader.specs.Log.{maxRecords}
 use Rattle.reader.proofs.Search.{None}
 use Rattle.history.specs.History.{History, add, emptyRemove}
+use Rattle.history.specs.Sheet.{orderVerdict}
 use Rattle.history.specs.Table.{tabled}
 use Rattle.history.proofs.Basics.{zeros}
-use Rattle.violations.specs.Violations.{Is, Removed, Gap, Covered, AllCovered, falseEmpty, NoViolation}
+use Rattle.violations.specs.Violations.{Is, Removed, falseEmpty, NoViolation}
 use Rattle.violations.specs.Verdict.{FirstViolation, Verdict}
-use Rattle.violations.specs.Search.{Single, Sound}
-use Rattle.violations.proofs.Laws.{tables-match, tables-fit}
+use Rattle.violations.specs.Search.{Single, Sound, LastGap, Found}
+use Rattle.violations.proofs.Laws.{occurs-numbered, excluded, tables-match, tables-fit}
 use Rattle.violations.proofs.Chains.{false-empty}
 use Rattle.judge.specs.Held.{Held}
 use Rattle.judge.specs.Matching.{First, Cleared, Partners, Shows, unknown, twice, early, Again, partnerAt}
@@ -43,11 +44,16 @@ new-cleared = record { sized = length-replicate {A = ℕ} maxRecords 0; zero = z
 listed-first : (listed list : List ℕ) → length listed ≤ length list → take (length listed) (sets list 0 listed) ≡ listed
 listed-first listed list fits = rw (sets-eq listed list 0 (omega arith)) (take-append-seam listed _)
 
+-- a pattern is no order
+no-order : {h : History} {byte : ℕ} {listed : List ℕ} → FirstViolation h byte listed → {P : Type 0} → byte ≡ orderVerdict → P
+no-order first e = absurd (omega (arith, occurs-numbered (first .occurs)))
+
 pub decided : {h : History} {byte : ℕ} (listed list : List ℕ) → length list ≡ maxRecords → length listed ≤ maxRecords → FirstViolation h byte listed → Decided h byte (length listed) (sets list 0 listed)
 decided listed list sized few first = record {
   sized = length-sets list 0 listed ∙ sized;
   within = few;
   verdict = rw (listed-first listed list (omega arith)) (Verdict.violation first);
+  chosen = no-order first;
 }
 
 -- Patterns 1 to 3.
@@ -120,22 +126,20 @@ module _ {count end : ℕ} {table partner : List ℕ} (held : Held (tabled count
               go (is-empty is) = absurd (full (is .kinds))
 
       -- where no pattern occurs, the tables serve
-      pub tables-serve : Uncovered (tabled count end table) reach end gaps → NoViolation (tabled count end table)
-          → Sound (tabled count end table) (reachAt reach) (gapAt limit) × ((e : ℕ) → Is (tabled count end table) emptyRemove e → 0 < limitAt limit e)
-      tables-serve uncovered clean = (
-        tables-fit (held .lawful) (right .reaches) (λ n listed l. clean n listed) (λ e is. gap is .1) (λ e is. gap is .2),
-        λ e is. gap is .0,
-      )
-        where
-          full : {e : ℕ} → Is (tabled count end table) emptyRemove e → AllCovered (tabled count end table) e → ⊥
-          full {e} is covered = let (chain, found) = false-empty is covered in clean 6 (e ∷ chain) (falseEmpty found)
+      module _ (uncovered : Uncovered (tabled count end table) reach end gaps) where
+        have-gaps : NoViolation (tabled count end table) → (e : ℕ) → Is (tabled count end table) emptyRemove e → (0 < limitAt limit e) × LastGap (tabled count end table) e (gapAt limit e)
+        have-gaps clean e is = last-gap held partners limited right uncovered is (λ covered. let (chain, found) = false-empty is covered in clean 6 (e ∷ chain) (falseEmpty found))
 
-          gap : {e : ℕ} → Is (tabled count end table) emptyRemove e → (0 < limitAt limit e) × Gap (tabled count end table) e (gapAt limit e) × (Covered (tabled count end table) (gapAt limit e) → ⊥)
-          gap is = last-gap held partners limited right uncovered is (full is)
+        tables-serve : NoViolation (tabled count end table) → Sound (tabled count end table) (reachAt reach) (gapAt limit)
+        tables-serve clean = tables-fit (held .lawful) (right .reaches) (λ n listed l. clean n listed) (λ e is. have-gaps clean e is .1 .lies) (λ e is. have-gaps clean e is .1 .uncovered)
 
-      pub ordered : Uncovered (tabled count end table) reach end gaps → (list : List ℕ) (ended : Ended) → Ends (tabled count end table) reach limit ended list → Ordered (tabled count end table) ended list
-      ordered uncovered list (Whole k) (within, sized, judged) = record { sized = sized; within = within; verdict = Verdict.linearization judged }
-      ordered uncovered list Short (sized, unfit) = (sized, λ clean. let (sound, positive) = tables-serve uncovered clean in unfit sound positive)
+        pub ordered : (list : List ℕ) (ended : Ended) → Ends (tabled count end table) reach limit ended list → Ordered (tabled count end table) ended list
+        ordered list (Whole k) (within, sized, judged, continues) =
+            let clean : NoViolation (tabled count end table) = λ n listed. excluded (held .lawful) (judged .legal) in
+            let found : Found (tabled count end table) (take k list) =
+            record { reach = reachAt reach; gap = gapAt limit; reaches = right .reaches; gaps = λ e is. have-gaps clean e is .1; continues = continues (λ e is. have-gaps clean e is .0) } in
+            record { sized = sized; within = within; verdict = Verdict.linearization judged; chosen = λ e. found }
+        ordered list Short (sized, unfit) = (sized, λ clean. unfit (tables-serve clean) (λ e is. have-gaps clean e is .0))
 
     -- Patterns 4 and 5.
     pub paired-none : (list : List ℕ) → length list ≡ maxRecords → {pattern a : ℕ} → First (Blocking table count partner reach pattern) count a → count ≤ a → Paired (tabled count end table) table partner reach pattern 0 list
@@ -180,4 +184,5 @@ module _ {count end : ℕ} {table partner : List ℕ} (held : Held (tabled count
         let clean = pairs-ruled-out held partners right clean-three stuck overtaken in
         let unless : k ≡ 0 → ⊥ = λ e. some (chained-none clean first e) in
         let listed : 0 < k = omega arith in
-        record { sized = first .sized; within = first .within; verdict = Verdict.violation (chained-first clean first listed) }
+        let sixth = chained-first clean first listed in
+        record { sized = first .sized; within = first .within; verdict = Verdict.violation sixth; chosen = no-order sixth }

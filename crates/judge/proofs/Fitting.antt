@@ -19,7 +19,7 @@ use Rattle.judge.specs.Held.{Held}
 use Rattle.judge.specs.Gaps.{reachAt}
 use Rattle.judge.specs.Bounds.{limitAt, Least}
 use Rattle.judge.specs.Chains.{Reaching}
-use Rattle.judge.specs.Searching.{gapAt, Limits, Waits, LeastOf, queueIn, Cap, Fit, adds, removes, empties, QueueRoom}
+use Rattle.judge.specs.Searching.{gapAt, HaveGaps, Limits, Waits, LeastOf, queueIn, Cap, Fit, adds, removes, empties, QueueRoom}
 use Rattle.judge.specs.declared.search.Stand.{Stand}
 
 -- no value reaches beyond the end
@@ -117,8 +117,8 @@ module _ {h : History} (reach limit order : List ℕ) (cap : ℕ) (limits : Limi
   }
 
   -- and a safe one does so, if each empty remove has a gap
-  safe-below : Held h → Reaching h reach → ((e : ℕ) → Is h emptyRemove e → 0 < limitAt limit e) → {a : ℕ} → Is h add a → Safe h (reachAt reach) (gapAt limit) order a → reachAt reach a < cap
-  safe-below held reaching positive {a} is safe = go (capped .met)
+  safe-below : Held h → Reaching h reach → HaveGaps h limit → {a : ℕ} → Is h add a → Safe h (reachAt reach) (gapAt limit) order a → reachAt reach a < cap
+  safe-below held reaching gaps {a} is safe = go (capped .met)
     where
       within : reachAt reach a ≤ h .end
       within = reach-within held reaching is
@@ -130,7 +130,7 @@ module _ {h : History} (reach limit order : List ℕ) (cap : ℕ) (limits : Limi
       by-kind : (o : ℕ) → Left h order o → limitAt limit o ≡ cap → Kinds h o → reachAt reach a < cap
       by-kind o left e (is-add other) = by-add o other left e (removed? h o)
       by-kind o left e (is-remove other) = omega (arith, within, limits .others o (other .known) (λ f. omega (arith, other .kinds)) (λ i out. omega (arith, other .kinds, i .kinds)))
-      by-kind o left e (is-empty other) = omega (arith, safe .empties o other left, positive o other)
+      by-kind o left e (is-empty other) = omega (arith, safe .empties o other left, gaps o other)
 
       go : (cap ≡ h .end + 1) ⊎ ((o : ℕ) × Left h order o × (limitAt limit o ≡ cap)) → reachAt reach a < cap
       go (inl e) = omega (arith, within)
@@ -151,15 +151,15 @@ module _ {h : History} (reach limit order : List ℕ) (cap : ℕ) (limits : Limi
         record { enabled = enabled; serves = rw (empty k, none) (meets-empty k) }
 
     -- a placeable operation passes the code's test
-    pub placeable-fits : Held h → Reaching h reach → ((e : ℕ) → Is h emptyRemove e → 0 < limitAt limit e)
+    pub placeable-fits : Held h → Reaching h reach → HaveGaps h limit
         → {o : ℕ} {queue' : List ℕ} → Placeable h (reachAt reach) (gapAt limit) order (queueIn s queue) o queue' → Fit h reach queue s cap o
-    placeable-fits held reaching positive {o} {queue'} p = go (queueIn s queue) refl (p .serves)
+    placeable-fits held reaching gaps {o} {queue'} p = go (queueIn s queue) refl (p .serves)
       where
         nonempty : {a : ℕ} {rest : List ℕ} → queueIn s queue ≡ a ∷ rest → s .head < s .tail
         nonempty e = omega (arith, queue-long room, ap length e)
 
         go : (held-queue : List ℕ) → queueIn s queue ≡ held-queue → {q : List ℕ} → Serves h (reachAt reach) (gapAt limit) order o held-queue q → Fit h reach queue s cap o
-        go held-queue same (enqueues k safe) = adds k (safe-below held reaching positive (record { known = p .enabled .left .due .known; kinds = k }) safe)
+        go held-queue same (enqueues k safe) = adds k (safe-below held reaching gaps (record { known = p .enabled .left .due .known; kinds = k }) safe)
         go (a ∷ rest) same (dequeues out) =
             let first : getD queue (s .head) 0 ≡ a = ap (λ l. getD l 0 0) (sym (front room (nonempty same)) ∙ same) in
             removes (out .removes .kinds) (nonempty same) (ap (h .value) first ∙ sym (out .same))

@@ -1,6 +1,6 @@
 -- The limits of the operations: an add's is the return of its remove; an empty remove's is 1 above its last gap that no value covers, if not all
 -- are covered; the others set none.
-use Prim.Native.Nat.{ℕ, _+_, _-_, _<_}
+use Prim.Native.Nat.{ℕ, _+_, _-_, _≤_, _<_}
 use native.Mathlib.Omega.{arith}
 use native.Mathlib.Decide.{decLt}
 use mathlib.Core.Path.{_≡_, refl, _∙_}
@@ -11,7 +11,7 @@ use borrow.Author.Tests.{eq-eqb, ne-eqb}
 use Rattle.history.specs.History.{History, add, remove, emptyRemove}
 use Rattle.history.specs.Table.{kindAt, tabled}
 use Rattle.violations.specs.Violations.{Is, RemoveOf, Removed, Gap, Covered, AllCovered}
-use Rattle.violations.specs.Search.{Single}
+use Rattle.violations.specs.Search.{Single, LastGap}
 use Rattle.judge.specs.Held.{Held}
 use Rattle.judge.specs.Matching.{partnerAt, Partners}
 use Rattle.judge.specs.Gaps.{reachAt, CoversIn, LastUncovered, Uncovered}
@@ -52,16 +52,23 @@ module _ {count end : ℕ} {table partner gaps limit : List ℕ} (held : Held (t
 
   -- where not all gaps of an empty remove are covered, its limit is 1 above the last that is not
   pub last-gap : {reach : List ℕ} → Reaching h reach → Uncovered h reach end gaps → {e : ℕ} → Is h emptyRemove e → (AllCovered h e → ⊥)
-      → (0 < limitAt limit e) × Gap h e (limitAt limit e - 1) × (Covered h (limitAt limit e - 1) → ⊥)
+      → (0 < limitAt limit e) × LastGap h e (limitAt limit e - 1)
   last-gap {reach} right uncovered {e} empties some = go (decLt (h .call e) (limitAt limit e))
     where
       last : LastUncovered h reach (h .ret e - 1) (limitAt limit e)
       last = rw (limit-empty empties) (uncovered .lasts (h .ret e - 1) (omega (arith, held .lawful .spans e (empties .known), held .lawful .ends e (empties .known))))
 
-      go : Dec (h .call e < limitAt limit e) → (0 < limitAt limit e) × Gap h e (limitAt limit e - 1) × (Covered h (limitAt limit e - 1) → ⊥)
+      -- the gaps from the limit on are covered
+      behind : (g : ℕ) → limitAt limit e ≤ g → Gap h e g → Covered h g
+      behind g l gap = let (a, covers) = last .covered g l (omega (arith, gap .until)) in covers-in right covers
+
+      go : Dec (h .call e < limitAt limit e) → (0 < limitAt limit e) × LastGap h e (limitAt limit e - 1)
       go (yes l) = (
         omega arith,
-        record { from = omega arith; until = omega (arith, last .within, held .lawful .spans e (empties .known)) },
-        λ covered. let (a, covers) = covered-in right covered in last .uncovered (omega arith) a covers,
+        record {
+          lies = record { from = omega arith; until = omega (arith, last .within, held .lawful .spans e (empties .known)) };
+          uncovered = λ covered. let (a, covers) = covered-in right covered in last .uncovered (omega arith) a covers;
+          last = λ later m. behind later (omega arith);
+        },
       )
-      go (no l) = absurd (some (λ g gap. let (a, covers) = last .covered g (omega (arith, gap .from)) (omega (arith, gap .until)) in covers-in right covers))
+      go (no l) = absurd (some (λ g gap. behind g (omega (arith, gap .from)) gap))

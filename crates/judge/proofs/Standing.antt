@@ -3,25 +3,24 @@ use Prim.Native.Nat.{ℕ, _-_, _≤_, _<_}
 use native.Mathlib.Omega.{arith}
 use mathlib.Core.Path.{_≡_, sym, ap, _∙_}
 use mathlib.Core.Logic.{_⊎_, inl, inr}
-use mathlib.Core.List.{List, [], _∷_}
+use mathlib.Core.List.{List, [], _∷_, _++_, append-nil}
 use lib.ListN.{length, getD, take, length-append}
-use lib.Seq.{length-take-le, getD-take, slice-empty}
+use lib.Seq.{length-take-le, getD-take, slice-empty, append-snoc}
 use Rattle.reader.specs.Log.{maxRecords}
 use Rattle.reader.specs.Tables.{without, Pushed}
-use Rattle.history.specs.History.{History, emptyRemove}
+use Rattle.history.specs.History.{History}
 use Rattle.history.specs.Linearization.{placed, Listed}
 use Rattle.history.proofs.Counting.{different-are-few}
-use Rattle.violations.specs.Violations.{Is}
 use Rattle.violations.specs.Verdict.{JudgedLinearization}
-use Rattle.violations.specs.Search.{Single, Sound, Left, Placeable, Searched}
+use Rattle.violations.specs.Search.{Single, Sound, Left, Placeable, Searched, Continues, ends, places}
 use Rattle.violations.proofs.Laws.{search-starts, search-places, search-ends, search-goes-on}
 use Rattle.violations.proofs.Constructing.{search-few}
 use Rattle.violations.proofs.Lists.{snoc, listed-old, listed-new, listed-either, each-snoc, pairs-snoc}
 use Rattle.judge.specs.Held.{Held}
 use Rattle.judge.specs.Gaps.{reachAt}
-use Rattle.judge.specs.Bounds.{limitAt}
+use Rattle.judge.specs.Matching.{First}
 use Rattle.judge.specs.Chains.{Reaching}
-use Rattle.judge.specs.Searching.{gapAt, Limits, Waits, orderIn, waitingIn, queueIn, Stands, Room, Ready, Cap, Fit, QueueRoom, Queues}
+use Rattle.judge.specs.Searching.{gapAt, HaveGaps, Limits, Waits, orderIn, waitingIn, queueIn, Stands, Room, Ready, Cap, Fit, QueueRoom, Queues}
 use Rattle.judge.specs.declared.search.Stand.{Stand}
 use Rattle.judge.proofs.Waiting.{waits-none, waits-enabled, enabled-waits, none-waits}
 use Rattle.judge.proofs.Removing.{without-was, without-keeps, without-rises}
@@ -42,6 +41,7 @@ stands-start {h} reach limit waiting queue list held w q l = record {
   searched = rw (slice-empty 0 queue) (search-starts (held .lawful) (reachAt reach) (gapAt limit));
   waits = waits-none h;
   placed-below = λ o at. absurd (omega (arith, at .below));
+  built = λ gaps more continues. rw (slice-empty 0 queue) at continues;
 }
 
 -- an index of a table below n is one of its first n entries
@@ -76,9 +76,15 @@ module _ {h : History} {reach limit : List ℕ} {s : Stand} {waiting queue list 
   abbrev waiters : List ℕ
   waiters = waitingIn s waiting
 
-  -- where nothing waits, the order is whole
+  -- where nothing waits, nothing is left: the order is whole, and found as the search goes
+  ready-ends : s .waiting ≡ 0 → (o : ℕ) → Left h order o → ⊥
+  ready-ends none = none-waits (held .lawful) (stands .waits) (ready .enabling) (waiting-long held stands ∙ none)
+
   pub ready-whole : s .waiting ≡ 0 → JudgedLinearization h order
-  ready-whole none = search-ends (stands .searched) (none-waits (held .lawful) (stands .waits) (ready .enabling) (waiting-long held stands ∙ none))
+  ready-whole none = search-ends (stands .searched) (ready-ends none)
+
+  pub ready-found : s .waiting ≡ 0 → HaveGaps h limit → Continues h (reachAt reach) (gapAt limit) [] [] order
+  ready-found none gaps = rw (append-nil order) at (stands .built gaps [] (ends (ready-ends none)))
 
   -- where something waits, there is room in the order
   pub ready-room : 0 < s .waiting → s .placed < h .count
@@ -91,19 +97,31 @@ module _ {h : History} {reach limit : List ℕ} {s : Stand} {waiting queue list 
       (pairs-snoc order (getD waiting 0 0) (λ o p. o ≡ p → ⊥) (stands .searched .once) fresh) in
       omega (arith, few, length-append order (getD waiting 0 0 ∷ []), order-long held stands)
 
-  module _ {cap : ℕ} (limits : Limits h limit) (capped : Cap h limit order cap) where
+  module _ {cap : ℕ} (reaching : Reaching h reach) (limits : Limits h limit) (capped : Cap h limit order cap) where
+    -- what is placeable waits, and fits
+    record Waiter (p : ℕ) : Type 0 where
+      index : ℕ
+      inside : index < s .waiting
+      here : placed waiters index ≡ p
+      fit : Fit h reach queue s cap (getD waiting index 0)
+
+    waiter : HaveGaps h limit → {p : ℕ} {queue' : List ℕ} → Placeable h (reachAt reach) (gapAt limit) order (queueIn s queue) p queue' → Waiter p
+    waiter gaps {p} placeable =
+        let there = enabled-waits (held .lawful) (stands .waits) (ready .enabling) (placeable .enabled) in
+        let inside : there .at < s .waiting = omega (arith, there .below, waiting-long held stands) in
+        let fits : Fit h reach queue s cap p = placeable-fits reach limit order cap limits capped (stands-queue held stands) held reaching gaps placeable in
+        record { index = there .at; inside = inside; here = there .here; fit = rw (← (there .here), getD-take (s .waiting) waiting (there .at) 0 inside) at fits }
+
     -- where none of those that wait fits, the tables do not serve
-    pub ready-short : Reaching h reach → 0 < s .waiting → ((i : ℕ) → i < s .waiting → Fit h reach queue s cap (getD waiting i 0) → ⊥)
-        → Sound h (reachAt reach) (gapAt limit) → ((e : ℕ) → Is h emptyRemove e → 0 < limitAt limit e) → ⊥
-    ready-short reaching some none sound positive =
+    pub ready-short : 0 < s .waiting → ((i : ℕ) → i < s .waiting → Fit h reach queue s cap (getD waiting i 0) → ⊥) → Sound h (reachAt reach) (gapAt limit) → HaveGaps h limit → ⊥
+    ready-short some none sound gaps =
         let first : Listed waiters (getD waiting 0 0) = entry waiting (s .waiting) 0 (omega (arith, stands .waiting-sized, stands .waiting-within, stands .next-within, held .few)) some in
         let (o, queue', placeable) = search-goes-on (held .lawful) sound (stands .searched) (stands .waits .are (getD waiting 0 0) first .1) in
-        let there = enabled-waits (held .lawful) (stands .waits) (ready .enabling) (placeable .enabled) in
-        let below : there .at < s .waiting = omega (arith, there .below, waiting-long held stands) in
-        none (there .at) below (rw (← (there .here), getD-take (s .waiting) waiting (there .at) 0 below) at (placeable-fits reach limit order cap limits capped (stands-queue held stands) held reaching positive placeable))
+        let w = waiter gaps placeable in
+        none (w .index) (w .inside) (w .fit)
 
-    -- One of those that wait is placed.
-    module _ (single : Single h) {i : ℕ} (inside : i < s .waiting) (fit : Fit h reach queue s cap (getD waiting i 0)) where
+    -- The first of those that wait that fits is placed.
+    module _ (single : Single h) {i : ℕ} (inside : i < s .waiting) (first : First (λ j. Fit h reach queue s cap (getD waiting j 0)) (s .waiting) i) where
       abbrev o : ℕ
       o = getD waiting i 0
 
@@ -112,6 +130,14 @@ module _ {h : History} {reach limit : List ℕ} {s : Stand} {waiting queue list 
 
       in-waiters : i < length waiters
       in-waiters = omega (arith, waiting-long held stands)
+
+      -- it is the lowest that is placeable
+      lowest : HaveGaps h limit → (p : ℕ) (other : List ℕ) → p < o → Placeable h (reachAt reach) (gapAt limit) order (queueIn s queue) p other → ⊥
+      lowest gaps p queue' less placeable =
+          let w = waiter gaps placeable in
+          let not-here : w .index ≡ i → ⊥ = λ e. omega (arith, ap (placed waiters) e, w .here, at-i) in
+          let not-behind : i < w .index → ⊥ = λ l. omega (arith, stands .waits .rise i (w .index) l (omega (arith, w .inside, waiting-long held stands)), w .here, at-i) in
+          first .none-lower (w .index) (omega arith) (w .fit)
 
       o-waits : Listed waiters o
       o-waits = record { at = i; below = in-waiters; here = at-i }
@@ -154,13 +180,18 @@ module _ {h : History} {reach limit : List ℕ} {s : Stand} {waiting queue list 
       placed-low p (inl at) = stands .placed-below p at
       placed-low p (inr e) = omega (arith, stands .waits .are o o-waits .0)
 
+      -- how the search goes on behind it is how it goes on from where it stands
+      placed-built : {queue' : List ℕ} → Placeable h (reachAt reach) (gapAt limit) order (queueIn s queue) o queue' → HaveGaps h limit → (more : List ℕ)
+          → Continues h (reachAt reach) (gapAt limit) (snoc order o) queue' more → Continues h (reachAt reach) (gapAt limit) [] [] (snoc order o ++ more)
+      placed-built placeable gaps more rest = rw (append-snoc order o more) (stands .built gaps (o ∷ more) (places placeable (lowest gaps) rest))
+
       pub ready-places : {t : Stand} {waiting' queue' list' : List ℕ} → length waiting' ≡ maxRecords → take (s .waiting - 1) waiting' ≡ without i waiters → Pushed (s .placed) o list list' → Queues (h .kind o) o s queue t queue'
           → Stands h reach limit t waiting' queue' list'
       ready-places {t} {waiting'} {queue'} {list'} sized left pushed queues =
           let grown : orderIn t list' ≡ snoc order o = rw (queues .placed-is) (pushed .holds) in
           let fewer : waitingIn t waiting' ≡ without i waiters = rw (queues .waiting-is) left in
           let placeable : Placeable h (reachAt reach) (gapAt limit) order (queueIn s queue) o (queueIn t queue') =
-          fit-places reach limit order cap limits capped (stands-queue held stands) (waits-enabled (held .lawful) (stands .waits) (ready .enabling) o-waits) fit (queueIn t queue') (queues .added) (queues .removed) (queues .empty) in
+          fit-places reach limit order cap limits capped (stands-queue held stands) (waits-enabled (held .lawful) (stands .waits) (ready .enabling) o-waits) (first .holds inside) (queueIn t queue') (queues .added) (queues .removed) (queues .empty) in
           let more : Searched h (reachAt reach) (gapAt limit) (snoc order o) (queueIn t queue') = search-places (held .lawful) (stands .searched) single placeable in
           record {
             waiting-sized = sized;
@@ -168,10 +199,11 @@ module _ {h : History} {reach limit : List ℕ} {s : Stand} {waiting queue list 
             list-sized = pushed .sized;
             next-within = omega (arith, queues .next-is, stands .next-within);
             waiting-within = omega (arith, queues .waiting-is, queues .next-is, stands .waiting-within);
-            head-within = queues .head-within (λ k. fit-remove fit k .0);
+            head-within = queues .head-within (λ k. fit-remove (first .holds inside) k .0);
             tail-within = omega (arith, queues .tail-within, queues .placed-is, stands .tail-within);
             placed-within = omega (arith, search-few more, length-append order (o ∷ []), order-long held stands, queues .placed-is);
             searched = rw grown more;
             waits = rw (grown, fewer, queues .next-is) placed-waits;
             placed-below = rw (grown, queues .next-is) (λ p at. placed-low p (listed-either order o at));
+            built = rw grown (placed-built placeable);
           }

@@ -10,16 +10,18 @@ use Rattle.history.specs.History.{History}
 use Rattle.history.specs.Sheet.{orderVerdict}
 use Rattle.violations.specs.Violations.{Occurs, NoViolation}
 use Rattle.violations.specs.Verdict.{Verdict}
+use Rattle.violations.specs.Search.{Found}
 use Rattle.judge.specs.Matching.{Shows}
 use Rattle.judge.specs.Blocked.{Blocking}
 use Rattle.judge.specs.declared.search.Ended.{Ended}
 use Rattle.judge.specs.declared.search.Ended.the-variants.{Whole, Short}
 
--- The first k numbers of the list are the operations that the verdict lists.
+-- The first k numbers of the list are the operations that the verdict lists. An order is the one that the search finds.
 pub record Decided (h : History) (byte k : ℕ) (list : List ℕ) : Type 0 where
   pub sized : length list ≡ maxRecords
   pub within : k ≤ maxRecords
   pub verdict : Verdict h byte (take k list)
+  pub chosen : byte ≡ orderVerdict → Found h (take k list)
 
 -- No pattern below n occurs.
 abbrev pub Clean : History → ℕ → Type 0

@@ -12,6 +12,7 @@ use Rattle.reader.specs.declared.record.Record.{Record}
 use Rattle.history.specs.Operations.{historyOf}
 use Rattle.history.specs.Sheet.{sheetHeader, orderVerdict, sheetOf}
 use Rattle.violations.specs.Verdict as violations
+use Rattle.violations.specs.Search.{Found}
 use Rattle.judge.specs.declared.judge.Verdict.{Verdict}
 use Rattle.judge.specs.declared.judge.Verdict.the-variants.{Order, Pattern, Refused}
 
@@ -47,11 +48,13 @@ pub record Delivers (byte : ℕ) (listed sheet : List ℕ) (answer : Verdict) (s
   pub answers : answer ≡ (if lacksRoom (sheetOf byte listed) sheet then Refused bufferTooShort 0 else verdictOf byte (length listed))
   pub leaves : sheet' ≡ written (sheetOf byte listed) sheet
 
--- A readable log is judged: it has a verdict, an order as the judge lists it or the first pattern, and that is delivered.
+-- A readable log is judged: it has a verdict, an order as the judge lists it or the first pattern, and that is delivered. Document 01 leaves open
+-- which legal order is listed; here it is the one that the search finds, so the history alone decides it.
 pub record Judgement (records : List Record) (sheet : List ℕ) (answer : Verdict) (sheet' : List ℕ) : Type 0 where
   pub byte : ℕ
   pub listed : List ℕ
   pub verdict : violations.Verdict (historyOf records) byte listed
+  pub chosen : byte ≡ orderVerdict → Found (historyOf records) listed
   pub delivers : Delivers byte listed sheet answer sheet'
 
 -- A log, as it was read, is judged into a sheet: this is the answer, and this sheet is left. A log that is not readable "returns its number and a

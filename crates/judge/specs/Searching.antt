@@ -11,9 +11,11 @@ use Rattle.history.specs.History.{History, add, remove, emptyRemove}
 use Rattle.history.specs.Linearization.{placed, Listed}
 use Rattle.violations.specs.Violations.{Is, RemoveOf, Removed}
 use Rattle.violations.specs.Verdict.{JudgedLinearization}
-use Rattle.violations.specs.Search.{Single, Sound, Left, Searched}
+use Rattle.violations.specs.Search.{Single, Sound, Left, Searched, Continues}
+use Rattle.judge.specs.Matching.{First}
 use Rattle.judge.specs.Gaps.{reachAt}
 use Rattle.judge.specs.Bounds.{limitAt}
+use Rattle.judge.specs.Chains.{Reaching}
 use Rattle.judge.specs.declared.search.Stand.{Stand}
 use Rattle.judge.specs.declared.search.Admission.{Admission}
 use Rattle.judge.specs.declared.search.Ended.{Ended}
@@ -22,6 +24,10 @@ use Rattle.judge.specs.declared.search.Ended.the-variants.{Whole, Short}
 -- the gap of an empty remove, as the table of limits has it
 abbrev pub gapAt : List ℕ → ℕ → ℕ
 gapAt limit e = limitAt limit e - 1
+
+-- It has one for each of them.
+abbrev pub HaveGaps : History → List ℕ → Type 0
+HaveGaps h limit = (e : ℕ) → Is h emptyRemove e → 0 < limitAt limit e
 
 -- The tables that the search goes by are right: how far values reach, and the limits that operations set.
 pub record Limits (h : History) (limit : List ℕ) : Type 0 where
@@ -59,6 +65,9 @@ pub record Stands (h : History) (reach limit : List ℕ) (s : Stand) (waiting qu
   pub searched : Searched h (reachAt reach) (gapAt limit) (orderIn s list) (queueIn s queue)
   pub waits : Waits h (orderIn s list) (s .next) (waitingIn s waiting)
   pub placed-below : (o : ℕ) → Listed (orderIn s list) o → o < s .next
+  -- always the lowest operation was placed that may be placed: if the search goes on so, it has gone so from its start
+  pub built : HaveGaps h limit → (more : List ℕ) → Continues h (reachAt reach) (gapAt limit) (orderIn s list) (queueIn s queue) more
+      → Continues h (reachAt reach) (gapAt limit) [] [] (orderIn s list ++ more)
 
 -- x is the least of `base` and what f makes of the numbers in a list
 pub record LeastOf (f : ℕ → ℕ) (base : ℕ) (numbers : List ℕ) (x : ℕ) : Type 0 where
@@ -132,13 +141,14 @@ pub record Queues (kind o : ℕ) (s : Stand) (queue : List ℕ) (t : Stand) (que
   pub removed : kind ≡ remove → s .head < s .tail → queueIn s queue ≡ getD queue (s .head) 0 ∷ queueIn t queue'
   pub empty : kind ≡ emptyRemove → queueIn t queue' ≡ queueIn s queue
 
--- The operation that waits at index i has been placed.
+-- The operation that waits at index i has been placed. It has to be the first of those that wait that fits.
 pub record Placed (h : History) (s : Stand) (i : ℕ) (waiting queue list : List ℕ) (t : Stand) (waiting' queue' list' : List ℕ) : Type 0 where
   pub placed-is : t .placed ≡ s .placed + 1
-  pub stands : (reach limit : List ℕ) (cap : ℕ) → Limits h limit → Single h → Cap h limit (orderIn s list) cap → Ready h reach limit s waiting queue list
-      → Fit h reach queue s cap (getD waiting i 0) → Stands h reach limit t waiting' queue' list'
+  pub stands : (reach limit : List ℕ) (cap : ℕ) → Reaching h reach → Limits h limit → Single h → Cap h limit (orderIn s list) cap → Ready h reach limit s waiting queue list
+      → First (λ j. Fit h reach queue s cap (getD waiting j 0)) (s .waiting) i → Stands h reach limit t waiting' queue' list'
 
--- What the search comes to: a legal order as the judge lists it, or the tables do not serve, since some pattern occurs.
+-- What the search comes to: a legal order as the judge lists it, found as the search goes, or the tables do not serve, since some pattern occurs.
 abbrev pub Ends : History → List ℕ → List ℕ → Ended → List ℕ → Type 0
-Ends h reach limit (Whole k) list = (k ≤ maxRecords) × (length list ≡ maxRecords) × JudgedLinearization h (take k list)
-Ends h reach limit Short list = (length list ≡ maxRecords) × (Sound h (reachAt reach) (gapAt limit) → ((e : ℕ) → Is h emptyRemove e → 0 < limitAt limit e) → ⊥)
+Ends h reach limit (Whole k) list =
+    (k ≤ maxRecords) × (length list ≡ maxRecords) × JudgedLinearization h (take k list) × (HaveGaps h limit → Continues h (reachAt reach) (gapAt limit) [] [] (take k list))
+Ends h reach limit Short list = (length list ≡ maxRecords) × (Sound h (reachAt reach) (gapAt limit) → HaveGaps h limit → ⊥)

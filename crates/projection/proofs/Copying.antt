@@ -9,7 +9,7 @@ use lib.ListN.{length, getD, set, take, drop, length-set, length-append, length-
 use lib.Seq.{sets-eq, paste, paste-zero, paste-suc, take-length, take-at, drop-at, drop-drop, length-take-le}
 use Rattle.reader.specs.Log.{logVersion, headerLength, maxRecords}
 use Rattle.reader.specs.Number.{bytesOf}
-use Rattle.projection.specs.Copies.{put}
+use Rattle.reader.specs.Buffer.{put}
 
 -- The loop of `copy` has come to byte i.
 pub record Copying (bytes : List ℕ) (at : ℕ) (old out : List ℕ) (i : ℕ) : Type 0 where

@@ -5,6 +5,7 @@ use mathlib.Core.Path.{_≡_, refl, sym, ap, _∙_}
 use mathlib.Core.List.{List, _++_}
 use lib.ListN.{length, getD, take, drop, length-drop}
 use lib.Seq.{length-take-le}
+use Rattle.reader.specs.Buffer.{put}
 use Rattle.reader.specs.Choice.{if_then_else_}
 use Rattle.reader.specs.Cursor.{behind}
 use Rattle.reader.specs.Record.{decodeAt}
@@ -13,7 +14,7 @@ use Rattle.reader.specs.Readable.{Bytes, recordOf, sizeOf, sizes}
 use Rattle.reader.specs.declared.record.Record.{Record}
 use Rattle.history.specs.Table.{Whole}
 use Rattle.projection.specs.Marks.{isSet}
-use Rattle.projection.specs.Copies.{chosen, marked, ifSet, put, RoomFor, Copied}
+use Rattle.projection.specs.Copies.{chosen, marked, ifSet, RoomFor, Copied}
 use Rattle.projection.proofs.Along.{whole-one, Along, along-start, along-behind, along-size, along-within}
 use Rattle.projection.proofs.Chosen.{chosen-size, chosen-bytes, chosen-rises}
 use Rattle.projection.proofs.Copying.{put-nothing, put-length, put-behind}

@@ -4,10 +4,10 @@ use Prim.Native.Nat.{ℕ, zero, suc, _+_, _≤_}
 use mathlib.Core.Path.{_≡_}
 use mathlib.Core.Bool.{Bool}
 use mathlib.Core.List.{List, [], _∷_, _++_}
-use lib.ListN.{length, take, drop}
+use lib.ListN.{length}
 use lib.Dec.{eqb}
 use Rattle.reader.specs.Choice.{if_then_else_}
-use Rattle.reader.specs.Buffer.{written}
+use Rattle.reader.specs.Buffer.{written, put}
 use Rattle.reader.specs.Log.{headerLength, maxRecords, maxLength, readable, readLog, encodeAll, encodeLog}
 use Rattle.reader.specs.Readable.{recordOf, sizes}
 use Rattle.reader.specs.declared.record.Record.{Record}
@@ -29,10 +29,6 @@ marked marks records = chosen (isSet marks) records (length records)
 -- a number where a mark is set, and 0 where it is not
 abbrev pub ifSet : ℕ → ℕ → ℕ
 ifSet mark x = if eqb mark keptMark then x else 0
-
--- a buffer with these bytes from a position on
-abbrev pub put : ℕ → List ℕ → List ℕ → List ℕ
-put at bytes buffer = take at buffer ++ bytes ++ drop (at + length bytes) buffer
 
 -- The marked records of a readable log are so many, and take so many bytes.
 pub record Measured (log marks : List ℕ) (extent : Extent) : Type 0 where

@@ -6,8 +6,9 @@ ghost use Prim.Native.Nat.{_+_, _≤_};
 ghost use lib.ListN.{length};
 ghost use Rattle.reader.specs.Log.{logVersion, headerLength, maxRecords};
 ghost use Rattle.reader.specs.Number.{bytesOf};
+ghost use Rattle.reader.specs.Buffer.{put};
 ghost use Rattle.history.specs.Table.{Whole};
-ghost use Rattle.projection.specs.Copies.{marked, put, RoomFor, Copied, Writes, keptRecords};
+ghost use Rattle.projection.specs.Copies.{marked, RoomFor, Copied, Writes, keptRecords};
 use crate::keep::Marks;
 use crate::mark::mark;
 use crate::measure::end_of;
@@ -27,7 +28,7 @@ pub enum Projected {
 pub const BUFFER_TOO_SHORT: u32 = 24;
 
 // Writes the header of a log of so many records.
-fn write_header(count: usize, out: &mut [u8])
+pub fn write_header(count: usize, out: &mut [u8])
     requires { ⌜ (count ≤ maxRecords) × (headerLength ≤ length (now out)) ⌝ }
     ensures { λ _. ⌜ now (out .exit) ≡ put 0 (logVersion ∷ bytesOf 2 count) (now (out .entry)) ⌝ }
 {
@@ -37,7 +38,7 @@ fn write_header(count: usize, out: &mut [u8])
 }
 
 // Copies bytes into a buffer, to a position of it.
-fn copy(bytes: &[u8], at: usize, out: &mut [u8])
+pub fn copy(bytes: &[u8], at: usize, out: &mut [u8])
     requires { ⌜ at + length (now bytes) ≤ length (now out) ⌝ }
     ensures { λ _. ⌜ now (out .exit) ≡ put at (now (bytes .entry)) (now (out .entry)) ⌝ }
 {

@@ -18,12 +18,12 @@ use Rattle.reader.specs.declared.record.Decoded.{Decoded}
 use Rattle.reader.specs.declared.record.Decoded.the-variants.{Found, Malformed}
 
 -- a refusal of a record has a number from 1 to 10
-Known : Decoded → Type 0
+abbrev pub Known : Decoded → Type 0
 Known (Found r next) = Unit {0}
 Known (Malformed number) = (1 ≤ number) × (number ≤ 10)
 
-decode-known : (log : List ℕ) (at : ℕ) → Known (decodeAt log at)
-unfolding decodeAt Known
+pub decode-known : (log : List ℕ) (at : ℕ) → Known (decodeAt log at)
+unfolding decodeAt
 decode-known log at =
     go (leb (length log) at) (ltb (length log - (at + 1)) (getD log at 0)) (eqb (getD log at 0) 0) (eqb (lengthOf (getD log (at + 1) 0)) 0) (eqb (getD log at 0) (lengthOf (getD log (at + 1) 0)))
   where
@@ -53,7 +53,7 @@ fault-known past r = tick (ltb (r .tick) (lastTick past))
     tick b = pick b 6 _ (lit≤ tt) (event (r .event) (pendingKind (pendingCalls past) (r .client)) (addedValues past))
 
 scan-within : (log : List ℕ) (left at : ℕ) (past : List Record) → length past + left ≤ maxRecords → Within (scan log left at past)
-unfolding scan Known
+unfolding scan
 scan-within log zero at past h = go (ltb at (length log))
   where
     go : (b : Bool) → Within (if b then refused 1 (length past) else readable (reverse past))

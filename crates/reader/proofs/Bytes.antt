@@ -22,7 +22,7 @@ use Rattle.reader.proofs.Records.{kind-back, event-least, event-most, v
 use Rattle.reader.proofs.Run.{Run, done, more, Read}
 
 -- a record stands at a position: its bytes are there, its fields are those bytes, and the next position is where it ends
-record Stood (log : List ℕ) (at : ℕ) (r : Record) (next : ℕ) : Type 0 where
+pub record Stood (log : List ℕ) (at : ℕ) (r : Record) (next : ℕ) : Type 0 where
   pub inside : at < length log
   pub fits : at + sizeOf r ≤ length log
   pub long : getD log at 0 ≡ lengthOf (kindOf (r .event))
@@ -33,7 +33,7 @@ record Stood (log : List ℕ) (at : ℕ) (r : Record) (next : ℕ) : Type 0 wher
   pub ends : next ≡ at + sizeOf r
 
 -- a record that is found stands there
-decode-inverts : (log : List ℕ) (at : ℕ) {r : Record} {next : ℕ} → decodeAt log at ≡ Found r next → Stood log at r next
+pub decode-inverts : (log : List ℕ) (at : ℕ) {r : Record} {next : ℕ} → decodeAt log at ≡ Found r next → Stood log at r next
 unfolding decodeAt
 decode-inverts log at {r} {next} e =
     go (leb (length log) at) (ltb (length log - (at + 1)) (getD log at 0)) (eqb (getD log at 0) 0) (eqb (lengthOf kind) 0) (eqb (getD log at 0) (lengthOf kind)) refl refl refl refl e
@@ -77,7 +77,7 @@ joined : (log : List ℕ) (at next n m : ℕ) → next ≡ at + n → take n (dr
 joined log at next n m e = rw (e, take-add n m (drop at log), drop-drop)
 
 -- a record that stands in a list of bytes, put back into bytes, is the bytes that stand there
-record-back : {log : List ℕ} {at next : ℕ} {r : Record} → Stood log at r next → Bytes log → encode r ≡ take (sizeOf r) (drop at log)
+pub record-back : {log : List ℕ} {at next : ℕ} {r : Record} → Stood log at r next → Bytes log → encode r ≡ take (sizeOf r) (drop at log)
 unfolding encode
 record-back {log} {at} {next} {r} s b =
     let least = event-least (r .event) in
@@ -98,7 +98,7 @@ record-back {log} {at} {next} {r} s b =
     (ahead log at (at + 1) (7 + width) (1 + getD log at 0) (s .inside) (omega arith) (omega arith))
 
 -- and its fields fit their bytes
-small-there : {log : List ℕ} {at next : ℕ} {r : Record} → Stood log at r next → Bytes log → Small r
+pub small-there : {log : List ℕ} {at next : ℕ} {r : Record} → Stood log at r next → Bytes log → Small r
 small-there {log} {at} {r = r} s b = record {
   client = omega (arith, s .client, number-small log (at + 2) 2 b);
   tick = omega (arith, s .tick, number-small log (at + 4) 4 b);
@@ -119,13 +119,13 @@ sizes-most [] = omega arith
 sizes-most (r ∷ records) = omega (arith, sizes-most records, event-most (r .event))
 
 -- the sizes of records with one more behind them
-sizes-snoc : (records : List Record) (r : Record) → sizes (records ++ (r ∷ [])) ≡ sizes records + sizeOf r
+pub sizes-snoc : (records : List Record) (r : Record) → sizes (records ++ (r ∷ [])) ≡ sizes records + sizeOf r
 unfolding sizes
 sizes-snoc [] r = omega arith
 sizes-snoc (x ∷ records) r = omega (arith, sizes-snoc records r)
 
 -- the bytes of records with one more behind them
-encode-snoc : (records : List Record) (r : Record) → encodeAll (records ++ (r ∷ [])) ≡ encodeAll records ++ encode r
+pub encode-snoc : (records : List Record) (r : Record) → encodeAll (records ++ (r ∷ [])) ≡ encodeAll records ++ encode r
 unfolding encodeAll
 encode-snoc [] r = append-nil (encode r)
 encode-snoc (x ∷ records) r = rw (encode-snoc records r, append-assoc)

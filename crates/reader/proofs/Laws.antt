@@ -25,6 +25,11 @@ use Rattle.reader.proofs.Clients.{ticks-law, first-law, next-law, once-
 use Rattle.reader.proofs.Run.{Admits, none, Read, reads, run-admits}
 -- The records of a readable log of bytes are orderly, and a log of orderly records is read as them.
 pub use Rattle.reader.proofs.Orderly.{readable-orderly, orderly-readable}
+-- Bytes that are handed in as one record behind a log are a record's that can be written there exactly if nothing is wrong with them.
+pub use Rattle.reader.proofs.Feeding.{RecordBehind, faultless-is-record, record-is-faultless, writable-more}
+-- the bytes of records with one more behind them, and of one record
+pub use Rattle.reader.proofs.Bytes.{encode-snoc}
+pub use Rattle.reader.proofs.Encoding.{encode-length}
 
 -- what holds of the records as they were read, latest first, holds of the log's records
 read-partial : {log : List ℕ} {records : List Record} → Read log records → PartialLog log records

@@ -5,6 +5,7 @@ pub mod Clients
 pub mod Encoding
 pub mod Examples
 pub mod Faults
+pub mod Feeding
 pub mod Keeping
 pub mod Laws
 pub mod Lists

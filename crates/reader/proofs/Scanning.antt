@@ -3,21 +3,27 @@ use Prim.Native.Nat.{ℕ, zero, suc, _+_, _-_, _≤_, _<_}
 use native.Mathlib.Omega.{arith}
 use mathlib.Core.Path.{_≡_, refl, sym, ap, _∙_}
 use mathlib.Core.List.{List, [], _∷_, _++_, reverse, reverse-cons, reverse-reverse}
-use lib.ListN.{length, take, length-reverse}
-use lib.Dec.{ltb}
-use mathlib.Core.Bool.{Bool, true, false}
+use lib.ListN.{length, getD, take, length-reverse}
+use lib.Dec.{ltb, eqb}
+use mathlib.Core.Bool.{Bool, true, false, not}
 use Rattle.reader.specs.Choice.{if_then_else_}
-use borrow.Author.Tests.{lt-ltb, le-ltb, eq-eqb, ne-eqb}
+use borrow.Author.Tests.{lt-ltb, le-ltb, lt-leb, le-leb, eq-eqb, ne-eqb, ltb-false}
 use Rattle.reader.specs.Record.{decodeAt}
-use Rattle.reader.specs.Log.{Reading, readable, refused, headerLength, maxRecords, fault, scan, operations, pendingCalls, earliestRemove, pendingRemove, complete, checked}
-use Rattle.reader.specs.Tables.{faultIn, earliestCode, Fits, Room, Kept, Admitted, Goes, Stepped, surveyed}
+use Rattle.reader.specs.Log.{Reading, readable, refused, logVersion, headerLength, maxRecords, countField, fault, scan, readPartial, operations, pendingCalls, earliestRemove, pendingRemove, complete, checked}
+use Rattle.reader.specs.Tables.{faultIn, earliestCode, Fits as InUse, Room, Kept, Admitted, Goes, Stepped, AllKept, Passed, through, stopped, FaultBehind, headerOf, surveyed}
 use Rattle.reader.specs.declared.record.Record.{Record}
 use Rattle.reader.specs.declared.record.Decoded.the-variants.{Found, Malformed}
 use Rattle.reader.specs.declared.scan.Progress.{Progress}
 use Rattle.reader.specs.declared.scan.Step.{Step}
 use Rattle.reader.specs.declared.scan.Step.the-variants.{Next, Stop}
+use Rattle.reader.specs.declared.log.Extension.the-variants.{Full, Faulty, Fits}
+use Rattle.reader.specs.Feed.{faultBehind, extended}
+use Rattle.reader.specs.declared.scan.Pass.{Pass}
+use Rattle.reader.specs.declared.scan.Pass.the-variants.{Through, Stopped}
 use Rattle.reader.specs.declared.scan.Survey.{Survey}
 use Rattle.reader.specs.declared.scan.Survey.the-variants.{Whole, Broken}
+use Rattle.reader.specs.declared.log.Header.{Header}
+use Rattle.reader.specs.declared.log.Header.the-variants.{Count, Wrong}
 use Rattle.reader.specs.declared.log.Checked.{Checked}
 use Rattle.reader.specs.declared.log.Checked.the-variants.{Readable, Refused}
 use Rattle.reader.proofs.Keeping.{fault-found, has-room, keeps-none}
@@ -91,7 +97,7 @@ module _ {log : List ℕ} {count : ℕ} {clients codes values : List ℕ} {p : P
   one-more h = omega arith
 
   pub loop-stops : {clients' codes' values' : List ℕ} {step : Step} {number : ℕ} → i < count → Stepped log i p clients codes values step clients' codes' values' → step ≡ Stop number
-      → Broken number i ≡ surveyed (scan log count headerLength [])
+      → scan log count headerLength [] ≡ refused number i
   loop-stops {clients'} {codes'} {values'} {number = number} h g e =
       let goes : Goes log (s .past) (p .at) clients' codes' values' (Stop number) = rw e at (g .goes (s .past) (s .kept) (s .counted)) in
       rw (s .rest, one-more h, goes (count - (i + 1)), s .counted) refl
@@ -111,28 +117,93 @@ module _ {log : List ℕ} {count : ℕ} {clients codes values : List ℕ} {p : P
   pub loop-has-room : i < maxRecords → Room p clients codes values
   loop-has-room h = has-room (s .kept) (omega (arith, s .counted))
 
-  pub loop-fits : count ≤ maxRecords → Fits (p .pending) codes
-  loop-fits h = record {
-    within = omega (arith, s .counted, s .below, s .kept .pending .counted, pending-few (s .past));
-    sized = s .kept .pending .codes-sized;
-  }
-
   ends : count ≤ i → scan log count headerLength [] ≡ scan log zero (p .at) (s .past)
   ends h = s .rest ∙ ap (λ (n : ℕ). scan log n (p .at) (s .past)) (omega arith)
 
-  pub loop-leaves-bytes : count ≤ i → p .at < length log → Broken 1 count ≡ surveyed (scan log count headerLength [])
+  pub loop-leaves-bytes : count ≤ i → p .at < length log → scan log count headerLength [] ≡ refused 1 count
   unfolding scan
   loop-leaves-bytes h more =
       let all : length (s .past) ≡ count = omega (arith, s .counted, s .below) in
       rw (ends h, lt-ltb (p .at) (length log) more, all) refl
 
-  pub loop-ends : {least : ℕ} → count ≤ i → length log ≤ p .at → least ≡ earliestCode (take (p .pending) codes) count → Whole count (p .operations) least ≡ surveyed (scan log count headerLength [])
+  pub loop-ends : count ≤ i → length log ≤ p .at → AllKept log count p clients codes values
   unfolding scan
-  loop-ends {least} h none e =
-      let all : length (reverse (s .past)) ≡ count = omega (arith, length-reverse (s .past), s .counted, s .below) in
-      let found : earliestRemove (pendingCalls (s .past)) count ≡ least =
-      sym (earliest-found (pendingCalls (s .past)) count (pending-sound (s .past))) ∙ (ap (λ (cs : List ℕ). earliestCode cs count) (sym (s .kept .pending .codes-are)) ∙ sym e) in
-      rw (ends h, le-ltb (p .at) (length log) none, reverse-reverse (s .past), all, found, operations-reverse (s .past), s .kept .calls) refl
+  loop-ends h none = record { past = s .past; counted = omega (arith, s .counted, s .below); kept = s .kept; reads = rw (ends h, le-ltb (p .at) (length log) none) refl }
+
+-- bytes that are handed in as one record: they are none, or something is wrong with what they are, or nothing
+module _ {bytes : List ℕ} {p : Progress} {clients codes values : List ℕ} where
+  pub behind-other : (length bytes ≡ getD bytes 0 0 + 1 → ⊥) → FaultBehind bytes p clients codes values 1
+  unfolding faultBehind
+  behind-other n = record { found = λ past kept. rw (ne-eqb (length bytes) (getD bytes 0 0 + 1) n) refl }
+
+  module _ (one : length bytes ≡ getD bytes 0 0 + 1) where
+    pub behind-malformed : {number : ℕ} → decodeAt bytes 0 ≡ Malformed number → FaultBehind bytes p clients codes values number
+    unfolding faultBehind
+    behind-malformed e = record { found = λ past kept. rw (eq-eqb (length bytes) (getD bytes 0 0 + 1) one, e) refl }
+
+    pub behind-fault : {r : Record} {next f : ℕ} → decodeAt bytes 0 ≡ Found r next → f ≡ faultIn r p clients codes values → FaultBehind bytes p clients codes values f
+    unfolding faultBehind
+    behind-fault {r} e is = record { found = λ past kept. rw (eq-eqb (length bytes) (getD bytes 0 0 + 1) one, e) (is ∙ fault-found kept r) }
+
+-- the outcome of reading all records, by its case
+pub passed-all : {log : List ℕ} {count : ℕ} {r : Pass} {p : Progress} {clients codes values : List ℕ} → Passed log count r clients codes values → r ≡ Through p → AllKept log count p clients codes values
+passed-all {log} {count} {p = p} {clients} {codes} {values} passed e = go (rw e at passed)
+  where
+    go : Passed log count (Through p) clients codes values → AllKept log count p clients codes values
+    go (through all) = all
+
+pub passed-not : {log : List ℕ} {count : ℕ} {r : Pass} {number index : ℕ} {clients codes values : List ℕ} → Passed log count r clients codes values → r ≡ Stopped number index → scan log count headerLength [] ≡ refused number index
+passed-not {log} {count} {number = number} {index} {clients} {codes} {values} passed e = go (rw e at passed)
+  where
+    go : Passed log count (Stopped number index) clients codes values → scan log count headerLength [] ≡ refused number index
+    go (stopped refusal) = refusal
+
+-- all records have been read
+module _ {log : List ℕ} {count : ℕ} {p : Progress} {clients codes values : List ℕ} (all : AllKept log count p clients codes values) where
+  pub all-fit : count ≤ maxRecords → InUse (p .pending) codes
+  all-fit h = record { within = omega (arith, all .counted, all .kept .pending .counted, pending-few (all .past)); sized = all .kept .pending .codes-sized }
+
+  pub all-have-room : count < maxRecords → Room p clients codes values
+  all-have-room h = has-room (all .kept) (omega (arith, all .counted))
+
+  pub all-surveyed : {least : ℕ} → least ≡ earliestCode (take (p .pending) codes) count → Whole count (p .operations) least ≡ surveyed (scan log count headerLength [])
+  all-surveyed {least} e =
+      let counted : length (reverse (all .past)) ≡ count = omega (arith, length-reverse (all .past), all .counted) in
+      let found : earliestRemove (pendingCalls (all .past)) count ≡ least =
+      sym (earliest-found (pendingCalls (all .past)) count (pending-sound (all .past))) ∙ (ap (λ (cs : List ℕ). earliestCode cs count) (sym (all .kept .pending .codes-are)) ∙ sym e) in
+      rw (all .reads, reverse-reverse (all .past), counted, found, operations-reverse (all .past), all .kept .calls) refl
+
+  -- bytes that are handed in behind them: there are too many records already, something is wrong, or they fit
+  module _ (bytes : List ℕ) where
+    pub extends-full : maxRecords ≤ count → Full ≡ extended (scan log count headerLength []) bytes
+    extends-full h = rw (all .reads, length-reverse (all .past), all .counted, le-leb maxRecords count h) refl
+
+    module _ {number : ℕ} (behind : FaultBehind bytes p clients codes values number) (h : count < maxRecords) where
+      is : faultBehind (all .past) bytes ≡ number
+      is = sym (behind .found (all .past) (all .kept))
+
+      pub extends-faulty : (number ≡ 0 → ⊥) → Faulty number count ≡ extended (scan log count headerLength []) bytes
+      extends-faulty n = rw (all .reads, length-reverse (all .past), all .counted, reverse-reverse (all .past), lt-leb maxRecords count h, is, ne-eqb number 0 n) refl
+
+      pub extends-fits : number ≡ 0 → Fits count ≡ extended (scan log count headerLength []) bytes
+      extends-fits z = rw (all .reads, length-reverse (all .past), all .counted, reverse-reverse (all .past), lt-leb maxRecords count h, is, eq-eqb number 0 z) refl
+
+-- what a header says of the log
+abbrev pub FromHeader : List ℕ → Header → Type 0
+FromHeader log (Wrong number) = readPartial log ≡ refused number 0
+FromHeader log (Count count) = (count ≤ maxRecords) × (readPartial log ≡ scan log count headerLength [])
+
+-- the header of a log: a refusal of it is one of the log, and behind it the records are read
+pub header-is : (log : List ℕ) → (header : Header) → headerOf log ≡ header → FromHeader log header
+unfolding readPartial
+header-is log header e = go (ltb (length log) headerLength) (eqb (getD log 0 0) logVersion) (ltb maxRecords (countField log)) refl refl refl (sym e)
+  where
+    go : (a b c : Bool) → ltb (length log) headerLength ≡ a → eqb (getD log 0 0) logVersion ≡ b → ltb maxRecords (countField log) ≡ c
+        → header ≡ (if a then Wrong 1 else if not b then Wrong 2 else if c then Wrong 3 else Count (countField log)) → FromHeader log header
+    go true b c ta tb tc e = rw (e, ta) refl
+    go false false c ta tb tc e = rw (e, ta, tb) refl
+    go false true true ta tb tc e = rw (e, ta, tb, tc) refl
+    go false true false ta tb tc e = rw e (ltb-false maxRecords (countField log) tc, rw (ta, tb, tc) refl)
 
 -- the answers that the outcome of a scan gives: but for 10, and with 10
 abbrev pub partly : Survey → Checked

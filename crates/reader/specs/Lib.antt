@@ -6,4 +6,5 @@ pub mod Record
 pub mod Cursor
 pub mod Log
 pub mod Readable
+pub mod Feed
 pub mod Tables

@@ -6,6 +6,7 @@ use mathlib.Core.List.{List, [], _∷_, _++_, reverse}
 use lib.ListN.{length, getD}
 use lib.Dec.{ltb, eqb}
 use Rattle.reader.specs.Choice.{if_then_else_}
+use Rattle.reader.specs.Buffer.{put}
 use Rattle.reader.specs.Number.{bigEndian, bytesOf}
 use Rattle.reader.specs.Refusal.{wrongBytes, wrongVersion, tooManyRecords, tickFell, clientBusy, noSuchCall, addedTwice, removePending}
 use Rattle.reader.specs.Record.{encode, decodeAt}
@@ -31,9 +32,12 @@ maxRecords = 1024
 abbrev pub maxLength : ℕ
 maxLength = 12291
 
--- n
+-- n, and a log with another n
 abbrev pub countField : List ℕ → ℕ
 countField log = bigEndian log 1 2
+
+abbrev pub withCount : ℕ → List ℕ → List ℕ
+withCount n log = put 1 (bytesOf 2 n) log
 
 -- the kinds of a call
 abbrev pub addCall : ℕ
@@ -110,7 +114,8 @@ fault past r =
     if ltb (r .tick) (lastTick past) then tickFell else
     eventFault (r .event) (pendingKind (pendingCalls past) (r .client)) (addedValues past)
 
--- what a log is read as: its records, first to last, or a refusal with its number and index (of `readPartial` below: readable but for 10)
+-- what a log is read as: its records, first to last, or a refusal with its number and index (of `readPartial` below: readable but for 10; of a session,
+-- also a refusal by how it stands)
 pub data Reading : Type 0 where
   readable : List Record → Reading
   refused : ℕ → ℕ → Reading

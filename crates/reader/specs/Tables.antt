@@ -2,18 +2,23 @@
 use Prim.Native.Nat.{ℕ, suc, _+_, _-_, _*_, _/_, _%_, _≤_, _<_}
 use mathlib.Core.Path.{_≡_}
 use mathlib.Core.Bool.{not}
-use mathlib.Core.List.{List, [], _∷_, _++_, map}
+use mathlib.Core.List.{List, [], _∷_, _++_, map, reverse}
 use lib.ListN.{length, getD, take, drop}
 use lib.Dec.{ltb, eqb}
 use Rattle.reader.specs.Choice.{if_then_else_}
-use Rattle.reader.specs.Log.{maxRecords, addCall, removeCall, Call, Reading, readable, refused, pendingCalls, addedValues, lastTick, operations, pendingRemove, isIn, fault, scan}
-use Rattle.reader.specs.Refusal.{tickFell, clientBusy, noSuchCall, addedTwice}
+use Rattle.reader.specs.Log.{logVersion, headerLength, maxRecords, countField, addCall, removeCall, Call, Reading, readable, refused, pendingCalls, addedValues, lastTick, operations, pendingRemove, isIn, fault, scan}
+use Rattle.reader.specs.Feed.{faultBehind}
+use Rattle.reader.specs.Refusal.{wrongBytes, wrongVersion, tooManyRecords, tickFell, clientBusy, noSuchCall, addedTwice}
 use Rattle.reader.specs.declared.record.Event.{Event}
 use Rattle.reader.specs.declared.record.Event.the-variants.{CallAdd, CallRemove, ReturnAdd, ReturnRemove}
 use Rattle.reader.specs.declared.record.Record.{Record}
 use Rattle.reader.specs.declared.scan.Progress.{Progress}
 use Rattle.reader.specs.declared.scan.Step.{Step}
 use Rattle.reader.specs.declared.scan.Step.the-variants.{Next, Stop}
+use Rattle.reader.specs.declared.scan.Pass.{Pass}
+use Rattle.reader.specs.declared.scan.Pass.the-variants.{Through, Stopped}
+use Rattle.reader.specs.declared.log.Header.{Header}
+use Rattle.reader.specs.declared.log.Header.the-variants.{Count, Wrong}
 use Rattle.reader.specs.declared.scan.Survey.{Survey}
 use Rattle.reader.specs.declared.scan.Survey.the-variants.{Whole, Broken}
 
@@ -124,6 +129,30 @@ Goes log past at clients codes values (Next q) =
 
 pub record Stepped (log : List ℕ) (index : ℕ) (p : Progress) (clients codes values : List ℕ) (s : Step) (clients' codes' values' : List ℕ) : Type 0 where
   pub goes : (past : List Record) → Kept past p clients codes values → length past ≡ index → Goes log past (p .at) clients' codes' values' s
+
+-- All records behind the header have been read, `count` of them: the tables hold them, and they are what the log is read as.
+pub record AllKept (log : List ℕ) (count : ℕ) (p : Progress) (clients codes values : List ℕ) : Type 0 where
+  pub past : List Record
+  pub counted : length past ≡ count
+  pub kept : Kept past p clients codes values
+  pub reads : scan log count headerLength [] ≡ readable (reverse past)
+
+-- They have all been read, or the scan ends with this refusal.
+pub data Passed (log : List ℕ) (count : ℕ) : Pass → List ℕ → List ℕ → List ℕ → Type 0 where
+  through : {p : Progress} {clients codes values : List ℕ} → AllKept log count p clients codes values → Passed log count (Through p) clients codes values
+  stopped : {number index : ℕ} {clients codes values : List ℕ} → scan log count headerLength [] ≡ refused number index → Passed log count (Stopped number index) clients codes values
+
+-- This is wrong with bytes that are handed in as one record behind those that the tables hold.
+pub record FaultBehind (bytes : List ℕ) (p : Progress) (clients codes values : List ℕ) (number : ℕ) : Type 0 where
+  pub found : (past : List Record) → Kept past p clients codes values → number ≡ faultBehind past bytes
+
+-- what the header of a log says: "1 for under 3 bytes, 2, 3", or the number of records
+abbrev pub headerOf : List ℕ → Header
+headerOf log =
+    if ltb (length log) headerLength then Wrong wrongBytes else
+    if not (eqb (getD log 0 0) logVersion) then Wrong wrongVersion else
+    if ltb maxRecords (countField log) then Wrong tooManyRecords else
+    Count (countField log)
 
 -- the answer of the scan, with the index of the earliest pending remove
 abbrev pub surveyed : Reading → Survey

@@ -1,7 +1,8 @@
 // A whole log: readable, or refused under a number of document 01. What is right is said in specs/Log.antt.
 ghost use mathlib.Core.Path.{_≡_};
 ghost use Rattle.reader.specs.Log.{readPartial, readLog, checked};
-ghost use Rattle.reader.specs.Tables.{surveyed};
+ghost use Rattle.reader.specs.Tables.{headerOf, surveyed};
+ghost use Rattle.reader.specs.Feed.{extended};
 use crate::format::HEADER;
 use crate::format::MAX_RECORDS;
 use crate::format::VERSION;
@@ -11,6 +12,7 @@ use crate::refusal::TOO_MANY_RECORDS;
 use crate::refusal::WRONG_BYTES;
 use crate::refusal::WRONG_VERSION;
 use crate::scan::Survey;
+use crate::scan::extend_records;
 use crate::scan::read_records;
 
 // The answer of a check; of `check_partial`, readable means readable but for 10.
@@ -19,30 +21,46 @@ pub enum Checked {
     Refused { number: u32, index: usize },
 }
 
+// What bytes come to that are handed in as one record behind a log: the log is not readable even but for 10; it has as many
+// records as a log may have; the bytes are refused; or they are a record that fits behind those of the log, so many.
+pub enum Extension {
+    Unreadable,
+    Full,
+    Faulty { number: u32, records: usize },
+    Fits(usize),
+}
+
+// What the header of a log says: the number of records, or the number of a refusal.
+pub enum Header {
+    Count(usize),
+    Wrong(u32),
+}
+
+// Reads the header.
+fn read_header(log: &[u8]) -> Header
+    ensures { λ r. ⌜ r ≡ headerOf (now (log .entry)) ⌝ }
+{
+    if log.len() < HEADER {
+        return Header::Wrong(WRONG_BYTES);
+    }
+    if log[0] != VERSION {
+        return Header::Wrong(WRONG_VERSION);
+    }
+    let count = be16(log, 1) as usize;
+    if MAX_RECORDS < count {
+        return Header::Wrong(TOO_MANY_RECORDS);
+    }
+    Header::Count(count)
+}
+
 // The header, then the records: a log but for refusal 10.
 fn read_partial(log: &[u8]) -> Survey
     ensures { λ r. ⌜ r ≡ surveyed (readPartial (now (log .entry))) ⌝ }
 {
-    if log.len() < HEADER {
-        return Survey::Broken {
-            number: WRONG_BYTES,
-            index: 0,
-        };
+    match read_header(log) {
+        Header::Wrong(number) => Survey::Broken { number, index: 0 },
+        Header::Count(count) => read_records(log, count),
     }
-    if log[0] != VERSION {
-        return Survey::Broken {
-            number: WRONG_VERSION,
-            index: 0,
-        };
-    }
-    let count = be16(log, 1) as usize;
-    if MAX_RECORDS < count {
-        return Survey::Broken {
-            number: TOO_MANY_RECORDS,
-            index: 0,
-        };
-    }
-    read_records(log, count)
 }
 
 // Checks a log but for refusal 10: removes may be pending.
@@ -84,5 +102,15 @@ pub fn check(log: &[u8]) -> Checked
                 operations,
             }
         }
+    }
+}
+
+// What bytes come to that are handed in as one record behind a log.
+pub fn check_extension(log: &[u8], bytes: &[u8]) -> Extension
+    ensures { λ r. ⌜ r ≡ extended (readPartial (now (log .entry))) (now (bytes .entry)) ⌝ }
+{
+    match read_header(log) {
+        Header::Wrong(_) => Extension::Unreadable,
+        Header::Count(count) => extend_records(log, count, bytes),
     }
 }

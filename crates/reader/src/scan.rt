@@ -3,11 +3,14 @@
 ghost use mathlib.Core.Path.{_≡_};
 ghost use mathlib.Core.List.{[]};
 ghost use Prim.Native.Nat.{_≤_, _<_};
+ghost use lib.ListN.{length};
 ghost use Rattle.reader.specs.Log.{headerLength, maxRecords, scan};
-ghost use Rattle.reader.specs.Tables.{Room, Admitted, Stepped, faultIn, surveyed};
+ghost use Rattle.reader.specs.Feed.{extended};
+ghost use Rattle.reader.specs.Tables.{Room, Admitted, Stepped, Passed, FaultBehind, faultIn, surveyed};
 use crate::cursor::read_at;
 use crate::format::HEADER;
 use crate::format::MAX_RECORDS;
+use crate::log::Extension;
 use crate::pending::ADD_CALL;
 use crate::pending::REMOVE_CALL;
 use crate::pending::begin_call;
@@ -40,6 +43,12 @@ pub struct Progress {
 pub enum Step {
     Next(Progress),
     Stop(u32),
+}
+
+// What reading all records comes to: what is known of them, or where reading ended with a refusal.
+pub enum Pass {
+    Through(Progress),
+    Stopped { number: u32, index: usize },
 }
 
 // The answer of a scan, with the index of the earliest pending remove, `records` where there is none.
@@ -179,14 +188,17 @@ fn read_record(
     }
 }
 
-// Reads the records behind the header, and the end of the log.
-pub fn read_records(log: &[u8], count: usize) -> Survey
-    requires { ⌜ count ≤ maxRecords ⌝ }
-    ensures { λ r. ⌜ r ≡ surveyed (scan (now (log .entry)) count headerLength []) ⌝ }
+// Reads the records behind the header, `count` of them. What is known of them is then kept in the tables.
+fn read_all(
+    log: &[u8],
+    count: usize,
+    clients: &mut Table,
+    codes: &mut Table,
+    values: &mut Table,
+) -> Pass
+    requires { ⌜ (count ≤ maxRecords) × (length (now clients) ≡ maxRecords) × (length (now codes) ≡ maxRecords) × (length (now values) ≡ maxRecords) ⌝ }
+    ensures { λ r. ⌜ Passed (now (log .entry)) count r (now (clients .exit)) (now (codes .exit)) (now (values .exit)) ⌝ }
 {
-    let mut clients = [0u32; MAX_RECORDS];
-    let mut codes = [0u32; MAX_RECORDS];
-    let mut values = [0u32; MAX_RECORDS];
     let mut p = Progress {
         at: HEADER,
         tick: 0,
@@ -196,9 +208,9 @@ pub fn read_records(log: &[u8], count: usize) -> Survey
     };
     let mut i = 0;
     while i < count {
-        match read_record(log, i, p, &mut clients, &mut codes, &mut values) {
+        match read_record(log, i, p, clients, codes, values) {
             Step::Stop(number) => {
-                return Survey::Broken { number, index: i };
+                return Pass::Stopped { number, index: i };
             }
             Step::Next(q) => {
                 p = q;
@@ -208,15 +220,77 @@ pub fn read_records(log: &[u8], count: usize) -> Survey
     }
     let at = p.at;
     if at < log.len() {
-        return Survey::Broken {
+        return Pass::Stopped {
             number: WRONG_BYTES,
             index: count,
         };
     }
-    let pending = p.pending;
-    Survey::Whole {
-        records: count,
-        operations: p.operations,
-        pending_remove: earliest_remove(&codes, pending, count),
+    Pass::Through(p)
+}
+
+// Reads the records behind the header, and the end of the log.
+pub fn read_records(log: &[u8], count: usize) -> Survey
+    requires { ⌜ count ≤ maxRecords ⌝ }
+    ensures { λ r. ⌜ r ≡ surveyed (scan (now (log .entry)) count headerLength []) ⌝ }
+{
+    let mut clients = [0u32; MAX_RECORDS];
+    let mut codes = [0u32; MAX_RECORDS];
+    let mut values = [0u32; MAX_RECORDS];
+    match read_all(log, count, &mut clients, &mut codes, &mut values) {
+        Pass::Stopped { number, index } => Survey::Broken { number, index },
+        Pass::Through(p) => {
+            let pending = p.pending;
+            Survey::Whole {
+                records: count,
+                operations: p.operations,
+                pending_remove: earliest_remove(&codes, pending, count),
+            }
+        }
+    }
+}
+
+// What is wrong with bytes that are handed in as one record behind those that the tables hold, 0 for nothing.
+fn fault_behind(bytes: &[u8], p: Progress, clients: &Table, codes: &Table, values: &Table) -> u32
+    requires { ⌜ Room p (now clients) (now codes) (now values) ⌝ }
+    ensures { λ f. ⌜ FaultBehind (now (bytes .entry)) p (now (clients .entry)) (now (codes .entry)) (now (values .entry)) f ⌝ }
+{
+    if bytes.len() == 0 {
+        return WRONG_BYTES;
+    }
+    if bytes.len() - 1 != bytes[0] as usize {
+        return WRONG_BYTES;
+    }
+    match read_at(bytes, 0) {
+        Decoded::Malformed(number) => number,
+        Decoded::Found { record, next: _ } => fault(record, p, clients, codes, values),
+    }
+}
+
+// What bytes come to that are handed in behind the records of a log.
+pub fn extend_records(log: &[u8], count: usize, bytes: &[u8]) -> Extension
+    requires { ⌜ count ≤ maxRecords ⌝ }
+    ensures { λ r. ⌜ r ≡ extended (scan (now (log .entry)) count headerLength []) (now (bytes .entry)) ⌝ }
+{
+    let mut clients = [0u32; MAX_RECORDS];
+    let mut codes = [0u32; MAX_RECORDS];
+    let mut values = [0u32; MAX_RECORDS];
+    match read_all(log, count, &mut clients, &mut codes, &mut values) {
+        Pass::Stopped {
+            number: _,
+            index: _,
+        } => Extension::Unreadable,
+        Pass::Through(p) => {
+            if MAX_RECORDS <= count {
+                return Extension::Full;
+            }
+            let number = fault_behind(bytes, p, &clients, &codes, &values);
+            if number != 0 {
+                return Extension::Faulty {
+                    number,
+                    records: count,
+                };
+            }
+            Extension::Fits(count)
+        }
     }
 }

@@ -1,20 +1,19 @@
--- Histories that agree on their operations are lawful together and have the same verdicts. Nothing is known of numbers that are no
--- operations, so what is said of an operation goes over along with the fact that it is one. The orders of one history as the judge
--- lists them agree in their length.
-use Prim.Native.Nat.{ℕ, _≤_, _<_}
+-- Histories that agree on their operations are lawful together and have the same verdicts, and the search finds the same order in
+-- them. Nothing is known of numbers that are no operations, so what is said of an operation goes over along with the fact that it is
+-- one.
+use Prim.Native.Nat.{ℕ, _<_}
 use native.Mathlib.Omega.{arith}
-use native.Mathlib.Decide.{decLt}
 use mathlib.Core.Path.{_≡_, refl, sym, _∙_}
-use mathlib.Core.Logic.{_↔_}
+use mathlib.Core.Logic.{_⊎_, inl, inr, _↔_}
 use mathlib.Core.List.{List}
-use lib.ListN.{length}
-use Rattle.history.specs.History.{History, Returned, Precedes, Lawful}
-use Rattle.history.specs.Linearization.{placed, Listed}
+use Rattle.history.specs.History.{History, add, emptyRemove, Returned, Precedes, Lawful}
+use Rattle.history.specs.Linearization.{Listed}
 use Rattle.history.specs.Table.{Agree}
 use Rattle.history.proofs.Agreeing.{agree-sym, agree-linearization}
-use Rattle.history.proofs.Counting.{partners-are-few}
-use Rattle.violations.specs.Violations.{Is, RemoveOf, Removed, Unknown, Twice, Early, Stuck, Overtaken, Reaches, removed, never, Covers, AllCovered, Furthest, Chain, all, link, FalseEmpty, Occurs, unknown, twice, early, stuck, overtaken, falseEmpty}
+use Rattle.violations.specs.Violations.{Is, RemoveOf, Removed, Unknown, Twice, Early, Stuck, Overtaken, Gap, Reaches, removed, never, Covers, Covered, AllCovered, Furthest, Chain, all, link, FalseEmpty, Occurs, unknown, twice, early, stuck, overtaken, falseEmpty}
 use Rattle.violations.specs.Verdict.{FirstViolation, JudgedLinearization, Verdict}
+use Rattle.violations.specs.Search.{Due, Left, Enabled, Safe, Serves, enqueues, dequeues, meets-empty, Placeable, LastGap, Continues, ends, places, Found}
+use Rattle.violations.proofs.Lists.{listed-none, listed-either, listed-here, listed-behind}
 
 -- an operation of one is an operation of the other
 agree-known : {h k : History} → Agree h k → {o : ℕ} → o < h .count → o < k .count
@@ -60,9 +59,14 @@ agree-covers : {h k : History} → Agree h k → {o reach g : ℕ} → Covers h 
 agree-covers a {o} c =
     record { adds = agree-is a (c .adds); reaches = agree-reaches a (c .adds .known) (c .reaches); from = omega (arith, a .ret o (c .adds .known), c .from); until = c .until }
 
+agree-covered : {h k : History} → Agree h k → {g : ℕ} → Covered h g → Covered k g
+agree-covered a (o, reach, c) = (o, reach, agree-covers a c)
+
+agree-gap : {h k : History} → Agree h k → {e g : ℕ} → e < h .count → Gap h e g → Gap k e g
+agree-gap a {e} l gap = record { from = omega (arith, a .call e l, gap .from); until = omega (arith, a .ret e l, gap .until) }
+
 agree-all-covered : {h k : History} → Agree h k → {e : ℕ} → e < h .count → AllCovered h e → AllCovered k e
-agree-all-covered a {e} l covered g gap =
-    let (o, reach, c) = covered g (record { from = omega (arith, a .call e l, gap .from); until = omega (arith, a .ret e l, gap .until) }) in (o, reach, agree-covers a c)
+agree-all-covered a l covered g gap = agree-covered a (covered g (agree-gap (agree-sym a) (agree-known a l) gap))
 
 agree-furthest : {h k : History} → Agree h k → {o reach g : ℕ} → Furthest h o reach g → Furthest k o reach g
 agree-furthest a f = record { covers = agree-covers a (f .covers); furthest = λ b far c. f .furthest b far (agree-covers (agree-sym a) c) }
@@ -137,24 +141,92 @@ pub agree-verdict : {h k : History} → Agree h k → {byte : ℕ} {listed : Lis
 agree-verdict a (Verdict.linearization x) = Verdict.linearization (agree-judged a x)
 agree-verdict a (Verdict.violation x) = Verdict.violation (agree-first-violation a x)
 
--- what one order of a history as the judge lists it lists, each other one lists
-judged-lists : {h : History} {xs ys : List ℕ} → JudgedLinearization h xs → JudgedLinearization h ys → (o : ℕ) → Listed xs o → Listed ys o
-judged-lists {h} {xs} {ys} x y o there = go (decLt (h .ret o) (h .end))
+-- what is left, and what is enabled
+agree-due : {h k : History} → Agree h k → {o : ℕ} → Due h o → Due k o
+agree-due {h} {k} a {o} due = record { known = agree-known a (due .known); listed = go (due .listed) }
   where
-    known : o < h .count
-    known = rw (← (there .here)) (x .legal .known (there .at) (there .below))
+    go : Returned h o ⊎ Removed h o → Returned k o ⊎ Removed k o
+    go (inl returned) = inl (omega (arith, a .ret o (due .known), a .end))
+    go (inr there) = inr (agree-removed a (due .known) there)
 
-    go : Dec (Returned h o) → Listed ys o
-    go (yes returned) = y .legal .every o known returned
-    go (no n) = y .pending o known n .1 (x .pending o known n .0 there)
+agree-left : {h k : History} → Agree h k → {order : List ℕ} {o : ℕ} → Left h order o → Left k order o
+agree-left a left = record { due = agree-due a (left .due); unplaced = left .unplaced }
 
--- a list of different operations is not longer than one that lists them all
-listed-no-longer : (xs ys : List ℕ) → ((i j : ℕ) → i < j → j < length xs → placed xs i ≡ placed xs j → ⊥) → ((o : ℕ) → Listed xs o → Listed ys o) → length xs ≤ length ys
-listed-no-longer xs ys once lists =
-    partners-are-few (λ i j. placed ys j ≡ placed xs i) (length xs) (length ys)
-    (λ i l. let there = lists (placed xs i) (record { at = i; below = l; here = refl }) in (there .at, there .below, there .here))
-    (λ i j k l m e f. once i j l m (sym e ∙ f))
+agree-enabled : {h k : History} → Agree h k → {order : List ℕ} {o : ℕ} → Enabled h order o → Enabled k order o
+agree-enabled a {o = o} enabled = record {
+  left = agree-left a (enabled .left);
+  first = λ p left.
+      let there = agree-left (agree-sym a) left in omega (arith, enabled .first p there, a .call o (enabled .left .due .known), a .ret p (there .due .known));
+}
 
--- so both are equally long
-pub judged-length : {h : History} {xs ys : List ℕ} → JudgedLinearization h xs → JudgedLinearization h ys → length xs ≡ length ys
-judged-length {xs = xs} {ys = ys} x y = omega (arith, listed-no-longer xs ys (x .legal .once) (judged-lists x y), listed-no-longer ys xs (y .legal .once) (judged-lists y x))
+-- The tables of two searches tell the same of the operations that they are asked for.
+pub record SameTables (h : History) (reach gap reach' gap' : ℕ → ℕ) : Type 0 where
+  pub reaches : (a : ℕ) → Is h add a → reach a ≡ reach' a
+  pub gaps : (e : ℕ) → Is h emptyRemove e → gap e ≡ gap' e
+
+agree-tables : {h k : History} → Agree h k → {reach gap reach' gap' : ℕ → ℕ} → SameTables h reach gap reach' gap' → SameTables k reach' gap' reach gap
+agree-tables a same = record { reaches = λ o is. sym (same .reaches o (agree-is (agree-sym a) is)); gaps = λ e is. sym (same .gaps e (agree-is (agree-sym a) is)) }
+
+-- the queue holds operations, and still does when an operation is placed
+abbrev pub KnownQueue : History → List ℕ → Type 0
+KnownQueue h queue = (a : ℕ) → Listed queue a → a < h .count
+
+serves-known : {h : History} {reach gap : ℕ → ℕ} {order queue queue' : List ℕ} {o : ℕ} → o < h .count → KnownQueue h queue → Serves h reach gap order o queue queue' → KnownQueue h queue'
+serves-known {h} {o = o} l known (enqueues {queue = queue} e safe) = λ a at. go (listed-either queue o at)
+  where
+    go : {a : ℕ} → Listed queue a ⊎ (o ≡ a) → a < h .count
+    go {a} (inl at) = known a at
+    go (inr same) = omega arith
+serves-known l known (dequeues {a = a} {queue = queue} out) = λ b at. known b (listed-behind a queue at)
+serves-known l known (meets-empty e) = known
+
+-- an operation that may be placed in one may be placed in the other
+agree-safe : {h k : History} → Agree h k → {reach gap reach' gap' : ℕ → ℕ} → SameTables h reach gap reach' gap' → {order : List ℕ} {o : ℕ} → Is h add o → Safe h reach gap order o → Safe k reach' gap' order o
+agree-safe a same {o = o} is safe = record {
+  removes = λ b r adds left out.
+      let there = agree-remove-of (agree-sym a) (adds .known) out in
+      omega (arith, safe .removes b r (agree-is (agree-sym a) adds) (agree-left (agree-sym a) left) there, same .reaches o is, a .ret r (there .removes .known));
+  empties = λ e empty left.
+      let there = agree-is (agree-sym a) empty in omega (arith, safe .empties e there (agree-left (agree-sym a) left), same .reaches o is, same .gaps e there);
+}
+
+agree-placeable : {h k : History} → Agree h k → {reach gap reach' gap' : ℕ → ℕ} → SameTables h reach gap reach' gap' → {order queue queue' : List ℕ} {o : ℕ} → KnownQueue h queue
+    → Placeable h reach gap order queue o queue' → Placeable k reach' gap' order queue o queue'
+agree-placeable {h} {k} a {reach} {gap} {reach'} {gap'} same {order} {o = o} known p = record { enabled = agree-enabled a (p .enabled); serves = go known (p .serves) }
+  where
+    here : o < h .count
+    here = p .enabled .left .due .known
+
+    kinds : {kind : ℕ} → h .kind o ≡ kind → k .kind o ≡ kind
+    kinds e = sym (a .kind o here) ∙ e
+
+    go : {queue queue' : List ℕ} → KnownQueue h queue → Serves h reach gap order o queue queue' → Serves k reach' gap' order o queue queue'
+    go known (enqueues e safe) = enqueues (kinds e) (agree-safe a same (record { known = here; kinds = e }) safe)
+    go known (dequeues {a = b} {queue = queue} out) = dequeues (agree-remove-of a (known b (listed-here b queue)) out)
+    go known (meets-empty e) = meets-empty (kinds e)
+
+-- so the search goes on alike in both
+pub agree-continues : {h k : History} → Agree h k → {reach gap reach' gap' : ℕ → ℕ} → SameTables h reach gap reach' gap' → {order queue more : List ℕ} → KnownQueue h queue
+    → Continues h reach gap order queue more → Continues k reach' gap' order queue more
+agree-continues a same known (ends none) = ends (λ o left. none o (agree-left (agree-sym a) left))
+agree-continues a same known (places p lowest rest) =
+    places (agree-placeable a same known p)
+    (λ q other l there. lowest q other l (agree-placeable (agree-sym a) (agree-tables a same) (λ b at. agree-known a (known b at)) there))
+    (agree-continues a same (serves-known (p .enabled .left .due .known) known (p .serves)) rest)
+
+-- and finds the same order
+agree-last-gap : {h k : History} → Agree h k → {e g : ℕ} → e < h .count → LastGap h e g → LastGap k e g
+agree-last-gap {h} {k} a {e} l gap = record {
+  lies = agree-gap a l (gap .lies);
+  uncovered = λ covered. gap .uncovered (agree-covered (agree-sym a) covered);
+  last = λ later after lies. agree-covered a (gap .last later after (agree-gap (agree-sym a) (agree-known a l) lies));
+}
+
+pub agree-found : {h k : History} → Agree h k → {order : List ℕ} → Found h order → Found k order
+agree-found a found = record {
+  reach = found .reach;
+  gap = found .gap;
+  reaches = λ o is. let there = agree-is (agree-sym a) is in agree-reaches a (there .known) (found .reaches o there);
+  gaps = λ e is. let there = agree-is (agree-sym a) is in agree-last-gap a (there .known) (found .gaps e there);
+  continues = agree-continues a (record { reaches = λ o is. refl; gaps = λ e is. refl }) (λ b at. absurd (listed-none at)) (found .continues);
+}

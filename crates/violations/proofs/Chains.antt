@@ -6,11 +6,12 @@ use mathlib.Core.Path.{_≡_, refl}
 use mathlib.Core.Logic.{_⊎_, inl, inr, _↔_, Dec·and, Dec·not}
 use mathlib.Core.List.{List, [], _∷_}
 use lib.ListN.{length}
-use Rattle.reader.proofs.Search.{Lowest, None, lowest}
+use Rattle.reader.proofs.Search.{None}
 use Rattle.history.specs.History.{History, add, emptyRemove}
 use Rattle.history.specs.Linearization.{placed}
 use Rattle.history.proofs.Deciding.{equivalent?}
 use Rattle.violations.specs.Violations.{Is, RemoveOf, Gap, Reaches, removed, never, Covers, Covered, AllCovered, Furthest, Chain, all, link, FalseEmpty}
+use Rattle.violations.specs.Search.{LastGap}
 use Rattle.violations.proofs.Choosing.{Best, best, greater, Ahead, ahead-at-least, ahead-of-less, ahead}
 use Rattle.violations.proofs.Operations.{is?, remove-of?}
 
@@ -159,21 +160,15 @@ unfoldable pub false-empty : {h : History} {e : ℕ} → Is h emptyRemove e → 
 unfolding chained-exactly
 false-empty {h} {e} is covered = let c = chained-exactly h e .0 covered in (c .0, record { empties = is; covered = covered; chained = c .1 })
 
--- A gap of an empty remove that no value covers.
-pub record UncoveredGap (h : History) (e : ℕ) : Type 0 where
-  pub gap : ℕ
-  pub lies : Gap h e gap
-  pub uncovered : Covered h gap → ⊥
-
 -- whether a gap is one of an empty remove
 gap? : (h : History) (e g : ℕ) → Dec (Gap h e g)
 unfolding equivalent? Dec·and decLe decLt
 gap? h e g = equivalent? {P = _ × _} (λ p. record { from = p .0; until = p .1 }) (λ l. (l .from, l .until)) (Dec·and (decLe _ _) (decLt _ _))
 
--- all gaps of an empty remove are covered, or the first that is not is found
-unfoldable pub uncovered-gap : (h : History) (e : ℕ) → AllCovered h e ⊎ UncoveredGap h e
-unfolding lowest gap? covered? Dec·and Dec·not
-uncovered-gap h e = go (lowest Uncovered (λ g. Dec·and (gap? h e g) (Dec·not (covered? h g))) (h .ret e))
+-- all gaps of an empty remove are covered, or the last that is not is found
+unfoldable pub last-gap : (h : History) (e : ℕ) → AllCovered h e ⊎ ((g : ℕ) × LastGap h e g)
+unfolding best greater gap? covered? Dec·and Dec·not
+last-gap h e = go (best Uncovered (λ g f. f ≤ g) (greater (λ g. g)) (λ g. Dec·and (gap? h e g) (Dec·not (covered? h g))) (h .ret e))
   where
     Uncovered : ℕ → Type 0
     Uncovered g = Gap h e g × (Covered h g → ⊥)
@@ -182,8 +177,16 @@ uncovered-gap h e = go (lowest Uncovered (λ g. Dec·and (gap? h e g) (Dec·not 
     covered-unless n l (yes c) = c
     covered-unless n l (no q) = absurd (n (l, q))
 
-    go : Lowest Uncovered (h .ret e) ⊎ None Uncovered (h .ret e) → AllCovered h e ⊎ UncoveredGap h e
-    go (inl s) = inr (record { gap = s .at; lies = s .holds .0; uncovered = s .holds .1 })
+    go : Best Uncovered (λ g f. f ≤ g) (h .ret e) ⊎ None Uncovered (h .ret e) → AllCovered h e ⊎ ((g : ℕ) × LastGap h e g)
+    go (inl s) =
+        inr (
+          s .at,
+          record {
+            lies = s .holds .0;
+            uncovered = s .holds .1;
+            last = λ later l lies. covered-unless (λ u. omega (arith, s .best later (lies .until) u)) lies (covered? h later);
+          },
+        )
     go (inr none) = inl (λ g l. covered-unless (none g (l .until)) l (covered? h g))
 
 -- What is known of an add of a chain for the gaps from g up to a return: it returns before that, and its value reaches beyond g.

@@ -1,21 +1,15 @@
--- Where no pattern occurs, there is a legal order.
-use Prim.Native.Nat.{ℕ, zero, suc, _+_, _≤_, _<_}
+-- Which tables are fit for the search, and that it places no more operations than there are.
+use Prim.Native.Nat.{ℕ, _≤_, _<_}
 use native.Mathlib.Omega.{arith}
 use mathlib.Core.Path.{_≡_, sym}
-use mathlib.Core.Logic.{_⊎_, inl, inr, Dec·and}
+use mathlib.Core.Logic.{Dec·and}
 use mathlib.Core.List.{List, [], _∷_}
-use lib.ListN.{length, length-append}
-use Rattle.reader.proofs.Search.{Lowest, None, lowest}
+use lib.ListN.{length}
 use Rattle.history.specs.History.{History, add, remove, emptyRemove, Precedes, Lawful}
 use Rattle.history.specs.Linearization.{placed}
 use Rattle.history.proofs.Counting.{different-are-few}
-use Rattle.violations.specs.Violations.{Is, RemoveOf, Gap, Reaches, removed, never, Covered, AllCovered, Occurs, unknown, twice, early, stuck, overtaken, falseEmpty, NoViolation}
-use Rattle.violations.specs.Verdict.{JudgedLinearization}
-use Rattle.violations.specs.Search.{Matched, Sound, Left, Searched}
-use Rattle.violations.proofs.Lists.{snoc}
-use Rattle.violations.proofs.Chains.{reach-of, false-empty, UncoveredGap, uncovered-gap}
-use Rattle.violations.proofs.Placing.{search-starts, search-places, search-ends}
-use Rattle.violations.proofs.Progress.{left?, search-goes-on}
+use Rattle.violations.specs.Violations.{Is, RemoveOf, Gap, Reaches, removed, never, Covered, Occurs, unknown, twice, early, stuck, overtaken}
+use Rattle.violations.specs.Search.{Matched, Sound, Searched}
 use Rattle.history.proofs.Deciding.{some?}
 use Rattle.violations.proofs.Operations.{precedes-unless-after, is?, remove-of?}
 
@@ -66,37 +60,3 @@ tables-fit {h} {reach} lawful reaches clean gaps uncovered = record {
 -- the search has placed no more operations than there are
 pub search-few : {h : History} {reach gap : ℕ → ℕ} {order queue : List ℕ} → Searched h reach gap order queue → length order ≤ h .count
 search-few {h} {order = order} s = different-are-few (placed order) (length order) (h .count) (λ i l. s .due i l .known) (s .once)
-
--- The search places operations until nothing is left.
-module _ {h : History} {reach gap : ℕ → ℕ} (lawful : Lawful h) (sound : Sound h reach gap) where
-  search-finds : (fuel : ℕ) (order queue : List ℕ) → Searched h reach gap order queue → h .count < length order + fuel → (found : List ℕ) × JudgedLinearization h found
-  search-finds zero order queue s enough = absurd (omega (arith, search-few s))
-  search-finds (suc fuel) order queue s enough = go (lowest (Left h order) (left? h order) (h .count)) (search-finds fuel)
-    where
-      go : Lowest (Left h order) (h .count) ⊎ None (Left h order) (h .count)
-          → ((order queue : List ℕ) → Searched h reach gap order queue → h .count < length order + fuel → (found : List ℕ) × JudgedLinearization h found) → (found : List ℕ) × JudgedLinearization h found
-      go (inr none) more = (order, search-ends s (λ o l. none o (l .due .known) l))
-      go (inl l) more =
-          let (o, queue', placeable) = search-goes-on lawful sound s (l .holds) in
-          more (snoc order o) queue' (search-places lawful s (sound .matched .single) placeable) (omega (arith, length-append order (o ∷ [])))
-
--- a gap of an empty remove that no value covers, if there is one
-gap-of : {h : History} {e : ℕ} → AllCovered h e ⊎ UncoveredGap h e → ℕ
-gap-of (inl covered) = 0
-gap-of (inr u) = u .gap
-
-gap-lies : {h : History} {e : ℕ} → (AllCovered h e → ⊥) → (u : AllCovered h e ⊎ UncoveredGap h e) → Gap h e (gap-of u) × (Covered h (gap-of u) → ⊥)
-unfolding gap-of
-gap-lies n (inl covered) = absurd (n covered)
-gap-lies n (inr u) = (u .lies, u .uncovered)
-
--- where no pattern occurs, an order exists
-pub linearization-exists : {h : History} → Lawful h → NoViolation h → (order : List ℕ) × JudgedLinearization h order
-linearization-exists {h} lawful clean =
-    search-finds lawful (tables-fit lawful (λ a is. reach-of h a .reaches) (λ n listed l. clean n listed) (λ e is. gaps e is .0) (λ e is. gaps e is .1)) (suc (h .count)) [] [] (search-starts lawful _ _) (omega arith)
-  where
-    true-empty : {e : ℕ} → Is h emptyRemove e → AllCovered h e → ⊥
-    true-empty {e} is covered = let (chain, f) = false-empty is covered in clean 6 (e ∷ chain) (falseEmpty f)
-
-    gaps : (e : ℕ) → Is h emptyRemove e → Gap h e (gap-of (uncovered-gap h e)) × (Covered h (gap-of (uncovered-gap h e)) → ⊥)
-    gaps e is = gap-lies (true-empty is) (uncovered-gap h e)

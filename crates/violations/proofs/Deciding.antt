@@ -10,7 +10,8 @@ use Rattle.history.specs.History.{History, add, emptyRemove}
 use Rattle.history.proofs.Deciding.{all-below?, implies?, equivalent?, listed?, linearization?, some?, either?}
 use Rattle.violations.specs.Violations.{Is, RemoveOf, Unknown, Twice, Early, Stuck, Overtaken, AllCovered, FalseEmpty, Occurs, unknown, twice, early, stuck, overtaken, falseEmpty, NoViolation}
 use Rattle.violations.specs.Verdict.{FirstViolation, JudgedLinearization}
-use Rattle.violations.proofs.Chains.{chain-one, false-empty, UncoveredGap, uncovered-gap}
+use Rattle.violations.specs.Search.{LastGap}
+use Rattle.violations.proofs.Chains.{chain-one, false-empty, last-gap}
 use Rattle.violations.proofs.Occurrences.{OfKinds, kindsOf, occurs-of-kinds, occurs-numbered}
 use Rattle.violations.proofs.Lowest.{Compared, lower-total, same?, LowestList, Sought, only-lowest, LowestPair, lowest-pair, lowest-cons}
 use Rattle.violations.proofs.Operations.{is?, remove-of?, removed?}
@@ -121,15 +122,15 @@ occurs-false-empty {h} {n} {e} {chain} l o = let six : n ≡ 6 = omega (arith, o
 
 -- the list of pattern 6 that begins with an operation is sought: there is only one, since there is only one chain
 false-empty-of : (h : History) (n : ℕ) → (n < 6 → ⊥) → (e : ℕ) → Sought (λ chain. Occurs h n (e ∷ chain))
-unfolding ℕ-discrete is? uncovered-gap false-empty only-lowest
-false-empty-of h n l e = go (ℕ-discrete n 6) (is? h emptyRemove e) (uncovered-gap h e)
+unfolding ℕ-discrete is? last-gap false-empty only-lowest
+false-empty-of h n l e = go (ℕ-discrete n 6) (is? h emptyRemove e) (last-gap h e)
   where
     found : n ≡ 6 → (chain : List ℕ) × FalseEmpty h e chain → LowestList (λ chain. Occurs h n (e ∷ chain))
     found six (chain, f) = only-lowest {list = chain} (rw six (falseEmpty f)) (λ other o. chain-one (occurs-false-empty l o .chained) (f .chained))
 
-    go : Dec (n ≡ 6) → Dec (Is h emptyRemove e) → AllCovered h e ⊎ UncoveredGap h e → Sought (λ chain. Occurs h n (e ∷ chain))
+    go : Dec (n ≡ 6) → Dec (Is h emptyRemove e) → AllCovered h e ⊎ ((g : ℕ) × LastGap h e g) → Sought (λ chain. Occurs h n (e ∷ chain))
     go (yes six) (yes i) (inl covered) = inl (found six (false-empty i covered))
-    go (yes six) (yes i) (inr u) = inr (λ chain o. u .uncovered (occurs-false-empty l o .covered (u .gap) (u .lies)))
+    go (yes six) (yes i) (inr (g, u)) = inr (λ chain o. u .uncovered (occurs-false-empty l o .covered g (u .lies)))
     go (yes six) (no q) d = inr (λ chain o. q (occurs-false-empty l o .empties))
     go (no q) c d = inr (λ chain o. q (omega (arith, occurs-numbered o)))
 

@@ -9,6 +9,7 @@ pub mod Deciding
 pub mod Examples
 pub mod Excluding
 pub mod Filtering
+pub mod Finding
 pub mod Laws
 pub mod Lengths
 pub mod Lists

@@ -1,6 +1,6 @@
 -- The search for an order, as code sees it: operations are placed one after the other, on a queue of adds. `reach` and
 -- `gap` are tables of the code: where the value of an add stops covering, and a gap of an empty remove. What a verdict is
--- can be understood without this file.
+-- can be understood without this file; which of the legal orders is listed is said at its end.
 use Prim.Native.Nat.{ℕ, _≤_, _<_}
 use mathlib.Core.Path.{_≡_}
 use mathlib.Core.Logic.{_⊎_, _↔_}
@@ -86,3 +86,26 @@ pub record Searched (h : History) (reach gap : ℕ → ℕ) (order queue : List 
   -- what can be run on the queue can be run behind the order
   pub runs : (more : List ℕ) → Fifo h more (map (h .value) queue) → Fifo h (order ++ more) []
   pub queued : Queued h reach gap order queue
+
+-- The last gap of an empty remove that no value covers.
+pub record LastGap (h : History) (e g : ℕ) : Type 0 where
+  pub lies : Gap h e g
+  pub uncovered : Covered h g → ⊥
+  pub last : (later : ℕ) → g < later → Gap h e later → Covered h later
+
+-- How the search goes on behind an order, with these adds in the queue: of the operations that may be placed the lowest is
+-- placed, until nothing is left.
+pub data Continues (h : History) (reach gap : ℕ → ℕ) : List ℕ → List ℕ → List ℕ → Type 0 where
+  ends : {order queue : List ℕ} → ((o : ℕ) → Left h order o → ⊥) → Continues h reach gap order queue []
+  places : {order queue queue' more : List ℕ} {o : ℕ} → Placeable h reach gap order queue o queue'
+      → ((p : ℕ) (other : List ℕ) → p < o → Placeable h reach gap order queue p other → ⊥)
+      → Continues h reach gap (order ++ (o ∷ [])) queue' more → Continues h reach gap order queue (o ∷ more)
+
+-- The order that the search finds. Document 01 leaves the choice among the legal orders to the program; here the history alone
+-- decides it.
+pub record Found (h : History) (order : List ℕ) : Type 0 where
+  pub reach : ℕ → ℕ
+  pub gap : ℕ → ℕ
+  pub reaches : (a : ℕ) → Is h add a → Reaches h a (reach a)
+  pub gaps : (e : ℕ) → Is h emptyRemove e → LastGap h e (gap e)
+  pub continues : Continues h reach gap [] [] order

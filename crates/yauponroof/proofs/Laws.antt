@@ -2,14 +2,16 @@
 -- refusal's number; the low 32 bits are what the call returns, or the refusal's record index.
 use Prim.Native.Nat.{ℕ, _/_, _%_, _≤_, _<_}
 use native.Mathlib.Omega.{arith}
-use mathlib.Core.Path.{_≡_, refl}
-use mathlib.Core.Bool.{Bool, true, false}
+use mathlib.Core.Path.{_≡_, refl, sym, ap, _∙_}
+use mathlib.Core.Bool.{Bool, true, false, not}
 use mathlib.Core.Logic.{_⊎_, inl, inr}
-use mathlib.Core.List.{List, []}
-use lib.ListN.{length}
+use mathlib.Core.List.{List, [], _++_}
+use lib.ListN.{length, drop}
+use lib.Dec.{eqb}
+use borrow.Author.Tests.{eqb-false}
 use Rattle.reader.specs.Choice.{if_then_else_}
 use Rattle.reader.specs.Buffer.{bufferTooShort, lacksRoom}
-use Rattle.reader.specs.Log.{maxLength, Reading, readable, refused, readLog, checked, operations, encodeLog}
+use Rattle.reader.specs.Log.{maxRecords, maxLength, Reading, readable, refused, readLog, checked, operations, encodeLog}
 use Rattle.reader.specs.Readable.{Within, Bytes}
 use Rattle.reader.specs.declared.record.Record.{Record}
 use Rattle.reader.specs.declared.log.Checked.the-variants as check
@@ -25,13 +27,14 @@ use Rattle.judge.specs.Judge as Judge
 use Rattle.judge.specs.Judge.{sheetBytes, Judges}
 use Rattle.judge.specs.declared.judge.Verdict.{Verdict}
 use Rattle.judge.specs.declared.judge.Verdict.the-variants as judge
-use Rattle.judge.proofs.Laws.{judged-at-most, judged-refusal, judged-too-short}
+use Rattle.judge.proofs.Laws.{judged-at-most, judged-refusal, judged-too-short, judged-determined}
 use Rattle.projection.specs.Projection.{valuesOf, narrowed, excerpted}
-use Rattle.projection.specs.Outcome.{noPattern, writing, narrowAnswer, excerptAnswerOf, excerptAnswer}
+use Rattle.projection.specs.Outcome.{noPattern, writing, narrowAnswer, excerptAnswerOf, excerptAnswer, excerptLeavesOf, excerptLeaves}
 use Rattle.projection.specs.declared.write.Projected.{Projected}
 use Rattle.projection.specs.declared.write.Projected.the-variants as projection
 use Rattle.projection.proofs.Laws.{projection-short}
-use Rattle.yauponroof.specs.Answer.{refusalUnit, refusal, checkAnswer, replayAnswer, judgeAnswer, JudgeAnswers, projectionAnswer, indexOf}
+use Rattle.session.specs.Session.{heldLog, stageRefusal, sessionReading}
+use Rattle.yauponroof.specs.Answer.{refusalUnit, refusal, checkAnswer, replayAnswer, judgeAnswer, Modest, JudgeAnswers, projectionAnswer, indexOf}
 
 -- an answer that is accepted, with what it returns, and one that is refused
 pub record Accepted (answer value : ℕ) : Type 0 where
@@ -43,10 +46,10 @@ pub record TurnedDown (answer number index : ℕ) : Type 0 where
   pub high : answer / refusalUnit ≡ number
   pub low : answer % refusalUnit ≡ index
 
-small-accepted : (value : ℕ) → value < refusalUnit → Accepted value value
+pub small-accepted : (value : ℕ) → value < refusalUnit → Accepted value value
 small-accepted value h = record { high = omega arith; low = omega arith }
 
-refusal-turned-down : (number index : ℕ) → 1 ≤ number → index < refusalUnit → TurnedDown (refusal number index) number index
+pub refusal-turned-down : (number index : ℕ) → 1 ≤ number → index < refusalUnit → TurnedDown (refusal number index) number index
 refusal-turned-down number index n i = record { some = n; high = omega arith; low = omega arith }
 
 -- of a check
@@ -104,6 +107,18 @@ zero-is-other log sheet e = go (replayed (readLog log) sheet) refl e
 pub other-is-zero : (log sheet : List ℕ) → ListsOther log sheet → replayAnswer (replayed (readLog log) sheet) ≡ 0
 other-is-zero log sheet order = rw (other-is-no log sheet order) refl
 
+-- The readings that judging and excerpts go by: that of a log, or of a session, which is that of the log it holds or a refusal by how it stands.
+pub data Known : Reading → Type 0 where
+  of-log : (log : List ℕ) → Known (readLog log)
+  standing : {number : ℕ} → 1 ≤ number → Known (refused number 0)
+
+pub session-known : (wanted stage used : ℕ) (buffer : List ℕ) → Known (sessionReading wanted stage used buffer)
+session-known wanted stage used buffer = go (eqb (stageRefusal wanted stage used buffer) 0) refl
+  where
+    go : (t : Bool) → eqb (stageRefusal wanted stage used buffer) 0 ≡ t → Known (if not t then refused (stageRefusal wanted stage used buffer) 0 else readLog (heldLog used buffer))
+    go true t = of-log (heldLog used buffer)
+    go false t = standing {number = stageRefusal wanted stage used buffer} (omega (arith, eqb-false (stageRefusal wanted stage used buffer) 0 t))
+
 -- of narrowing and of the excerpt: the record index of a refusal fits its half of the answer
 writing-fits : (bytes out : List ℕ) → indexOf (writing bytes out) < refusalUnit
 writing-fits bytes out = go (lacksRoom bytes out)
@@ -119,8 +134,9 @@ narrow-fits log values out = go (readLog log) (within log)
     go (readable records) few = writing-fits (encodeLog (narrowed records values)) out
     go (refused number index) few = omega (arith, few .2)
 
-pub excerpt-fits : (log out : List ℕ) → indexOf (excerptAnswer (readLog log) out) < refusalUnit
-excerpt-fits log out = go (readLog log) (within log)
+pub excerpt-fits : {reading : Reading} → Known reading → (out : List ℕ) → indexOf (excerptAnswer reading out) < refusalUnit
+excerpt-fits (standing some) out = omega arith
+excerpt-fits (of-log log) out = go (readLog log) (within log)
   where
     of-pattern : (records : List Record) → (found : SomeViolation (historyOf records) ⊎ NoViolation (historyOf records)) → indexOf (excerptAnswerOf records found out) < refusalUnit
     of-pattern records (inl (number, listed, first)) = writing-fits (encodeLog (excerpted records listed)) out
@@ -166,28 +182,75 @@ written-accepted {n} (fine-written short) = small-accepted n (omega arith)
 pub projection-turned-down : {number index : ℕ} → Fine (projection.Refused number index) → TurnedDown (projectionAnswer (projection.Refused number index)) number index
 projection-turned-down {number} {index} (fine-refused some small) = refusal-turned-down number index some small
 
--- of judging: an accepted answer is the number of bytes of the sheet
-pub judge-accepted : (log : List ℕ) {sheet sheet' : List ℕ} {verdict : Verdict} → Judges (readLog log) sheet verdict sheet' → Judge.Accepted verdict → Accepted (judgeAnswer verdict) (sheetBytes verdict)
-judge-accepted log j Judge.order = small-accepted _ (omega (arith, judged-at-most log j Judge.order))
-judge-accepted log j Judge.pattern = small-accepted _ (omega (arith, judged-at-most log j Judge.pattern))
+-- of judging: the numbers in a verdict are small
+refused-modest : {number index : ℕ} {sheet sheet' : List ℕ} {verdict : Verdict} → 1 ≤ number → index ≤ maxRecords → Judges (refused number index) sheet verdict sheet' → Modest verdict
+refused-modest some few Judge.turned-down = (some, few)
 
-pub judge-turned-down : (log : List ℕ) {sheet sheet' : List ℕ} {number index : ℕ} → Judges (readLog log) sheet (judge.Refused number index) sheet' → TurnedDown (judgeAnswer (judge.Refused number index)) number index
-judge-turned-down log {number = number} {index = index} j = let (some, small) = judged-refusal log j in refusal-turned-down number index some (omega arith)
+pub judges-modest : {reading : Reading} → Known reading → {sheet sheet' : List ℕ} (verdict : Verdict) → Judges reading sheet verdict sheet' → Modest verdict
+judges-modest (standing some) verdict j = refused-modest some (omega arith) j
+judges-modest (of-log log) (judge.Order k) j = judged-at-most log j Judge.order
+judges-modest (of-log log) (judge.Pattern number k) j = judged-at-most log j Judge.pattern
+judges-modest (of-log log) (judge.Refused number index) j = judged-refusal log j
+
+-- the same, by the verdict's case
+pub order-modest : {verdict : Verdict} {k : ℕ} → Modest verdict → verdict ≡ judge.Order k → k ≤ 682
+order-modest {k = k} modest e = go (rw e at modest)
+  where
+    go : Modest (judge.Order k) → k ≤ 682
+    go few = few
+
+pub pattern-modest : {verdict : Verdict} {number k : ℕ} → Modest verdict → verdict ≡ judge.Pattern number k → k ≤ 682
+pattern-modest {number = number} {k} modest e = go (rw e at modest)
+  where
+    go : Modest (judge.Pattern number k) → k ≤ 682
+    go few = few
+
+pub refusal-modest : {verdict : Verdict} {number index : ℕ} → Modest verdict → verdict ≡ judge.Refused number index → index < refusalUnit
+refusal-modest {number = number} {index} modest e = go (rw e at modest)
+  where
+    go : Modest (judge.Refused number index) → index < refusalUnit
+    go small = omega (arith, small .1)
 
 -- a refusal leaves the sheet as it was
 refused-untouched : (reading : Reading) {sheet sheet' : List ℕ} {verdict : Verdict} {number index : ℕ} → Judges reading sheet verdict sheet' → verdict ≡ judge.Refused number index → sheet' ≡ sheet
 refused-untouched (readable records) (Judge.judged j) e = judged-too-short (rw e at j) .untouched
 refused-untouched (refused n i) Judge.turned-down e = refl
 
--- What the number that `yr_judge` answers says: a sheet of so many bytes was written, or the call was refused and the sheet is as it was.
-pub data JudgeSays (log sheet : List ℕ) (answer : ℕ) (sheet' : List ℕ) : Type 0 where
-  wrote : {verdict : Verdict} → Judge.Accepted verdict → Judges (readLog log) sheet verdict sheet' → Accepted answer (sheetBytes verdict) → JudgeSays log sheet answer sheet'
-  turned-down : {number index : ℕ} → Judges (readLog log) sheet (judge.Refused number index) sheet' → TurnedDown answer number index → sheet' ≡ sheet → JudgeSays log sheet answer sheet'
+-- What the number that judging answers says, of a log or of what a session holds: a sheet of so many bytes was written, or the call was refused and
+-- the sheet is as it was.
+pub data JudgeSays (reading : Reading) (sheet : List ℕ) (answer : ℕ) (sheet' : List ℕ) : Type 0 where
+  wrote : {verdict : Verdict} → Judge.Accepted verdict → Judges reading sheet verdict sheet' → Accepted answer (sheetBytes verdict) → JudgeSays reading sheet answer sheet'
+  turned-down : {number index : ℕ} → Judges reading sheet (judge.Refused number index) sheet' → TurnedDown answer number index → sheet' ≡ sheet → JudgeSays reading sheet answer sheet'
 
-pub judge-says : (log : List ℕ) {sheet sheet' : List ℕ} {answer : ℕ} → JudgeAnswers (readLog log) sheet answer sheet' → JudgeSays log sheet answer sheet'
-judge-says log {sheet} {sheet'} {answer} a = go (a .verdict) (a .judges) (a .answers)
+pub judge-says : {reading : Reading} → Known reading → {sheet sheet' : List ℕ} {answer : ℕ} → JudgeAnswers reading sheet answer sheet' → JudgeSays reading sheet answer sheet'
+judge-says {reading} known {sheet} {sheet'} {answer} a = go (a .verdict) (a .judges) (judges-modest known (a .verdict) (a .judges)) (a .answers)
   where
-    go : (verdict : Verdict) → Judges (readLog log) sheet verdict sheet' → answer ≡ judgeAnswer verdict → JudgeSays log sheet answer sheet'
-    go (judge.Order k) j e = wrote Judge.order j (rw e (judge-accepted log j Judge.order))
-    go (judge.Pattern number k) j e = wrote Judge.pattern j (rw e (judge-accepted log j Judge.pattern))
-    go (judge.Refused number index) j e = turned-down j (rw e (judge-turned-down log j)) (refused-untouched (readLog log) j refl)
+    go : (verdict : Verdict) → Judges reading sheet verdict sheet' → Modest verdict → answer ≡ judgeAnswer verdict → JudgeSays reading sheet answer sheet'
+    go (judge.Order k) j few e = wrote Judge.order j (rw e (small-accepted _ (omega (arith, few))))
+    go (judge.Pattern number k) j few e = wrote Judge.pattern j (rw e (small-accepted _ (omega (arith, few))))
+    go (judge.Refused number index) j small e = turned-down j (rw e (refusal-turned-down number index (small .0) (omega (arith, small .1)))) (refused-untouched reading j refl)
+
+-- and of the excerpt so does a refusal
+pub excerpt-untouched : (reading : Reading) (out : List ℕ) {number index : ℕ} → excerptAnswer reading out ≡ projection.Refused number index → excerptLeaves reading out ≡ out
+excerpt-untouched (refused n i) out e = refl
+excerpt-untouched (readable records) out {number} {index} e = go (first-violation (historyOf records)) e
+  where
+    room : (bytes : List ℕ) (lacks : Bool) → (if lacks then projection.Refused bufferTooShort 0 else projection.Written (length bytes)) ≡ projection.Refused number index
+        → (if lacks then out else bytes ++ drop (length bytes) out) ≡ out
+    room bytes true e = refl
+    room bytes false e = let z : _≡_ {A = ℕ} 0 1 = cc in absurd (omega arith)
+
+    go : (found : SomeViolation (historyOf records) ⊎ NoViolation (historyOf records)) → excerptAnswerOf records found out ≡ projection.Refused number index → excerptLeavesOf records found out ≡ out
+    go (inl (n, listed, first)) e = room (encodeLog (excerpted records listed)) (lacksRoom (encodeLog (excerpted records listed)) out) e
+    go (inr clean) e = refl
+
+-- Judging a log, or what a session holds, into one sheet has one answer and leaves one sheet.
+pub judges-one : {reading : Reading} → Known reading → {sheet left left' : List ℕ} {answer answer' : Verdict} → Judges reading sheet answer left → Judges reading sheet answer' left' → (answer ≡ answer') × (left ≡ left')
+judges-one (of-log log) j k = judged-determined log j k
+judges-one (standing some) j k = go j k
+  where
+    go : {number : ℕ} {sheet left left' : List ℕ} {answer answer' : Verdict} → Judges (refused number 0) sheet answer left → Judges (refused number 0) sheet answer' left' → (answer ≡ answer') × (left ≡ left')
+    go Judge.turned-down Judge.turned-down = (refl, refl)
+
+pub answers-one : {reading : Reading} → Known reading → {sheet left left' : List ℕ} {answer answer' : ℕ} → JudgeAnswers reading sheet answer left → JudgeAnswers reading sheet answer' left' → (answer ≡ answer') × (left ≡ left')
+answers-one known a b = let (same, left) = judges-one known (a .judges) (b .judges) in (a .answers ∙ ap judgeAnswer same ∙ sym (b .answers), left)

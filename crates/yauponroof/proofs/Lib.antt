@@ -1,1 +1,4 @@
 pub mod Laws
+pub mod SessionLaws
+pub mod Turns
+pub mod SharedSessions

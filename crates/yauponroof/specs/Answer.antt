@@ -1,8 +1,8 @@
 -- The number that a call answers: what it returns, or, from 4,294,967,296 on, the refusal's number above its record index.
-use Prim.Native.Nat.{ℕ, _+_, _*_}
+use Prim.Native.Nat.{ℕ, _+_, _*_, _≤_}
 use mathlib.Core.Path.{_≡_}
 use mathlib.Core.List.{List}
-use Rattle.reader.specs.Log.{Reading}
+use Rattle.reader.specs.Log.{maxRecords, Reading}
 use Rattle.reader.specs.declared.log.Checked.{Checked}
 use Rattle.reader.specs.declared.log.Checked.the-variants as check
 use Rattle.replay.specs.declared.replay.Replayed.{Replayed}
@@ -35,6 +35,12 @@ abbrev pub judgeAnswer : Verdict → ℕ
 judgeAnswer (judge.Order k) = sheetBytes (judge.Order k)
 judgeAnswer (judge.Pattern number k) = sheetBytes (judge.Pattern number k)
 judgeAnswer (judge.Refused number index) = refusal number index
+
+-- the numbers in a verdict are small, so that the answer fits: a sheet lists at most 682 operations
+abbrev pub Modest : Verdict → Type 0
+Modest (judge.Order k) = k ≤ 682
+Modest (judge.Pattern number k) = k ≤ 682
+Modest (judge.Refused number index) = (1 ≤ number) × (index ≤ maxRecords)
 
 -- A log, as it was read, is judged into a sheet: this number is answered, and this sheet is left.
 pub record JudgeAnswers (reading : Reading) (sheet : List ℕ) (answer : ℕ) (sheet' : List ℕ) : Type 0 where

@@ -2,31 +2,24 @@
 // 32 bits are 0 if the call was accepted, else the refusal's number, and whose low 32 bits are what the call returns, or the
 // refusal's record index. specs/Answer.antt says which number each outcome is.
 ghost use mathlib.Core.Path.{_≡_};
-ghost use Prim.Native.Nat.{_<_};
 ghost use Rattle.reader.specs.Log.{readLog, checked};
 ghost use Rattle.replay.specs.Replay.{replayed};
 ghost use Rattle.projection.specs.Outcome.{excerptAnswer, excerptLeaves, narrowAnswer, narrowLeaves};
-ghost use Rattle.yauponroof.specs.Answer.{refusalUnit, refusal, checkAnswer, replayAnswer, JudgeAnswers, projectionAnswer, indexOf};
-use judge::judge::Verdict;
+ghost use Rattle.yauponroof.specs.Answer.{checkAnswer, replayAnswer, JudgeAnswers, projectionAnswer};
+
+mod answer;
+pub mod sessions;
+
+use crate::answer::judged;
+use crate::answer::projected;
+use crate::answer::refuse;
 use judge::judge::judge;
 use projection::excerpt::excerpt;
 use projection::narrow::narrow;
-use projection::write::Projected;
 use reader::log::Checked;
 use reader::log::check;
 use replay::replay::Replayed;
 use replay::replay::replay;
-
-// What a refusal's number is multiplied by: it stands in the high 32 bits.
-const REFUSAL_UNIT: u64 = 4294967296;
-
-// A refusal as an answer.
-fn refuse(number: u32, index: usize) -> u64
-    requires { ⌜ index < refusalUnit ⌝ }
-    ensures { λ r. ⌜ r ≡ refusal number index ⌝ }
-{
-    (number as u64) * REFUSAL_UNIT + index as u64
-}
 
 // Checks a log. Returns the number of its operations, or a refusal from 1 to 10.
 #[no_mangle]
@@ -54,30 +47,12 @@ pub extern "C" fn yr_replay(log: &[u8], sheet: &[u8]) -> u64
     }
 }
 
-// The bytes of a sheet before the operations that it lists.
-const SHEET_HEADER: usize = 4;
-
 // Judges a log: writes the sheet of its verdict. Returns how many bytes were written, or a refusal from 1 to 10 or 24.
 #[no_mangle]
 pub extern "C" fn yr_judge(log: &[u8], sheet: &mut [u8]) -> u64
     ensures { λ r. ⌜ JudgeAnswers (readLog (now (log .entry))) (now (sheet .entry)) r (now (sheet .exit)) ⌝ }
 {
-    match judge(log, sheet) {
-        Verdict::Order(listed) => (SHEET_HEADER + 2 * listed) as u64,
-        Verdict::Pattern { number: _, listed } => (SHEET_HEADER + 2 * listed) as u64,
-        Verdict::Refused { number, index } => refuse(number, index),
-    }
-}
-
-// A log that was written, or a refusal, as an answer.
-fn projected(p: Projected) -> u64
-    requires { ⌜ indexOf p < refusalUnit ⌝ }
-    ensures { λ r. ⌜ r ≡ projectionAnswer p ⌝ }
-{
-    match p {
-        Projected::Written(bytes) => bytes as u64,
-        Projected::Refused { number, index } => refuse(number, index),
-    }
+    judged(judge(log, sheet))
 }
 
 // Writes the excerpt of a log whose verdict is a pattern. Returns how many bytes were written, or a refusal from 1 to 10, 23 or 24.

@@ -1,7 +1,7 @@
 -- `yr_excerpt` meets its contract.
 use mathlib.Core.Path.{ap, _∙_}
 use Rattle.yauponroof.specs.Answer.{projectionAnswer}
-use Rattle.yauponroof.proofs.Laws.{excerpt-fits}
+use Rattle.yauponroof.proofs.Laws.{of-log, excerpt-fits}
 use borrow.Author.Needs.{needs}
 use Rattle.yauponroof.proofs.yr_excerpt.Statement.{statement}
 use Rattle.yauponroof.proofs.yr_excerpt.Tie as tie
@@ -10,7 +10,7 @@ excerpt-requires : tie.Need-excerpt-requires
 excerpt-requires c κs = search needs
 
 projected-requires : tie.Need-projected-requires
-projected-requires c κs = rw (c .before .before .excerpt .ensures .0) (excerpt-fits (c .before .before .before .before .before .before .args .log .now) (c .before .before .before .before .before .before .args .out .now))
+projected-requires c κs = rw (c .before .before .excerpt .ensures .0) (excerpt-fits (of-log (c .before .before .before .before .before .before .args .log .now)) (c .before .before .before .before .before .before .args .out .now))
 
 same-length : tie.Need-same-length
 same-length c = search needs

@@ -36,7 +36,7 @@ serve-requires : tie.Need-serve-requires
 serve-requires c κs = search needs
 
 returns : tie.Need-returns
-returns c = record { placed-is = c .serve .ensures .placed-is; stands = λ reach limit cap limits single capped ready fit. ready-places (c .before .before .before .before .before .before .before .before .pre .0) ready limits capped single (c .before .before .before .before .before .before .before .before .pre .2) fit (c .before .before .before .before .before .remove .ensures .1) (c .before .before .before .before .before .remove .ensures .0) (c .before .before .before .push .ensures) (c .serve .ensures) }
+returns c = record { placed-is = c .serve .ensures .placed-is; stands = λ reach limit cap reaching limits single capped ready first. ready-places (c .before .before .before .before .before .before .before .before .pre .0) ready reaching limits capped single (c .before .before .before .before .before .before .before .before .pre .2) first (c .before .before .before .before .before .remove .ensures .1) (c .before .before .before .before .before .remove .ensures .0) (c .before .before .before .push .ensures) (c .serve .ensures) }
 
 pub place-spec : {M : Type 1} → statement M
 place-spec =

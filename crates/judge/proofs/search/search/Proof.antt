@@ -5,7 +5,7 @@ use mathlib.Core.Path.{refl}
 use Rattle.history.specs.Table.{tabled}
 use Rattle.judge.specs.Searching.{Stands}
 use Rattle.judge.proofs.Fitting.{cap-is}
-use Rattle.judge.proofs.Standing.{stands-start, stands-room, stands-queue, ready-whole, ready-room, ready-short}
+use Rattle.judge.proofs.Standing.{stands-start, stands-room, stands-queue, ready-whole, ready-found, ready-room, ready-short}
 use Rattle.judge.proofs.search.search.Statement.{statement}
 use Rattle.judge.proofs.search.search.Tie as tie
 
@@ -22,7 +22,7 @@ admit-requires : tie.Need-admit-requires Inv-loop μ-loop
 admit-requires c κs = (c .before .before .pre .0, c .before .before .pre .1, stands-room (c .before .before .pre .0) (c .before .loop .inv))
 
 returns : tie.Need-returns Inv-loop μ-loop
-returns c = let ready = (c .before .before .admit .ensures .ready _ _ _ _ (c .before .before .before .before .loop .inv)) in (omega (arith, ready .stands .placed-within, c .before .before .before .before .before .pre .0 .few), ready .stands .list-sized, ready-whole (c .before .before .before .before .before .pre .0) ready (c .if1 .taken))
+returns c = let ready = (c .before .before .admit .ensures .ready _ _ _ _ (c .before .before .before .before .loop .inv)) in (omega (arith, ready .stands .placed-within, c .before .before .before .before .before .pre .0 .few), ready .stands .list-sized, ready-whole (c .before .before .before .before .before .pre .0) ready (c .if1 .taken), ready-found (c .before .before .before .before .before .pre .0) ready (c .if1 .taken))
 
 cap-of-requires : tie.Need-cap-of-requires Inv-loop μ-loop
 cap-of-requires c κs = let room = stands-room (c .before .before .before .before .before .before .pre .0) ((c .before .before .before .admit .ensures .ready _ _ _ _ (c .before .before .before .before .before .loop .inv)) .stands) in (omega (arith, room .next-within, c .before .before .before .before .before .before .pre .0 .few), omega (arith, room .within, room .next-within, c .before .before .before .before .before .before .pre .0 .few), room .sized, λ o at. omega (arith, room .known o at, c .before .before .before .before .before .before .pre .0 .few))
@@ -31,7 +31,7 @@ first-fit-requires : tie.Need-first-fit-requires Inv-loop μ-loop
 first-fit-requires c κs = (c .before .before .before .before .before .before .before .before .before .pre .0, stands-queue (c .before .before .before .before .before .before .before .before .before .pre .0) ((c .before .before .before .before .before .before .admit .ensures .ready _ _ _ _ (c .before .before .before .before .before .before .before .before .loop .inv)) .stands), stands-room (c .before .before .before .before .before .before .before .before .before .pre .0) ((c .before .before .before .before .before .before .admit .ensures .ready _ _ _ _ (c .before .before .before .before .before .before .before .before .loop .inv)) .stands))
 
 returns-2 : tie.Need-returns-2 Inv-loop μ-loop
-returns-2 c = let ready = (c .before .before .before .before .before .before .before .before .before .admit .ensures .ready _ _ _ _ (c .before .before .before .before .before .before .before .before .before .before .before .loop .inv)) in (ready .stands .list-sized, ready-short (c .before .before .before .before .before .before .before .before .before .before .before .before .pre .0) ready (c .before .before .before .before .before .before .before .before .before .before .before .before .pre .3) (cap-is (c .before .before .before .before .before .before .before .before .before .before .before .before .pre .0) (c .before .before .before .before .before .before .before .before .before .before .before .before .pre .3) ((c .before .before .before .before .before .before .before .before .before .admit .ensures .ready _ _ _ _ (c .before .before .before .before .before .before .before .before .before .before .before .loop .inv)) .stands .waits) ((c .before .before .before .before .before .before .before .before .before .admit .ensures .ready _ _ _ _ (c .before .before .before .before .before .before .before .before .before .before .before .loop .inv)) .stands .placed-below) (c .before .before .before .before .before .before .before .before .before .before .before .before .pre .4 .least _ (omega arith) ((c .before .before .before .before .before .before .before .before .before .admit .ensures .ready _ _ _ _ (c .before .before .before .before .before .before .before .before .before .before .before .loop .inv)) .stands .next-within)) (c .before .before .before .before .before .cap-of .ensures)) (c .before .before .before .before .before .before .before .before .before .before .before .before .pre .1) (omega (arith, c .before .before .before .before .before .before .before .if1 .left)) (λ i l. c .before .before .first-fit .ensures .none-lower i (omega (arith, c .if2 .taken))))
+returns-2 c = let ready = (c .before .before .before .before .before .before .before .before .before .admit .ensures .ready _ _ _ _ (c .before .before .before .before .before .before .before .before .before .before .before .loop .inv)) in (ready .stands .list-sized, ready-short (c .before .before .before .before .before .before .before .before .before .before .before .before .pre .0) ready (c .before .before .before .before .before .before .before .before .before .before .before .before .pre .1) (c .before .before .before .before .before .before .before .before .before .before .before .before .pre .3) (cap-is (c .before .before .before .before .before .before .before .before .before .before .before .before .pre .0) (c .before .before .before .before .before .before .before .before .before .before .before .before .pre .3) ((c .before .before .before .before .before .before .before .before .before .admit .ensures .ready _ _ _ _ (c .before .before .before .before .before .before .before .before .before .before .before .loop .inv)) .stands .waits) ((c .before .before .before .before .before .before .before .before .before .admit .ensures .ready _ _ _ _ (c .before .before .before .before .before .before .before .before .before .before .before .loop .inv)) .stands .placed-below) (c .before .before .before .before .before .before .before .before .before .before .before .before .pre .4 .least _ (omega arith) ((c .before .before .before .before .before .before .before .before .before .admit .ensures .ready _ _ _ _ (c .before .before .before .before .before .before .before .before .before .before .before .loop .inv)) .stands .next-within)) (c .before .before .before .before .before .cap-of .ensures)) (omega (arith, c .before .before .before .before .before .before .before .if1 .left)) (λ i l. c .before .before .first-fit .ensures .none-lower i (omega (arith, c .if2 .taken))))
 
 place-requires : tie.Need-place-requires Inv-loop μ-loop
 place-requires c κs = let ready = (c .before .before .before .before .before .before .before .before .before .before .before .before .admit .ensures .ready _ _ _ _ (c .before .before .before .before .before .before .before .before .before .before .before .before .before .before .loop .inv)) in let room = stands-room (c .before .before .before .before .before .before .before .before .before .before .before .before .before .before .before .pre .0) (ready .stands) in let fits = c .before .before .before .before .before .first-fit .ensures .within in (c .before .before .before .before .before .before .before .before .before .before .before .before .before .before .before .pre .0, room, omega (arith, fits, c .before .before .before .if2 .left), ready .stands .head-within, ready .stands .tail-within, omega (arith, ready-room (c .before .before .before .before .before .before .before .before .before .before .before .before .before .before .before .pre .0) ready (omega (arith, c .before .before .before .before .before .before .before .before .before .before .if1 .left)), c .before .before .before .before .before .before .before .before .before .before .before .before .before .before .before .pre .0 .few), ready .stands .queue-sized, ready .stands .list-sized)
@@ -40,7 +40,7 @@ loop-less : tie.Need-loop-less Inv-loop μ-loop
 loop-less c = let ready = (c .before .before .before .before .before .before .before .before .before .before .before .before .before .admit .ensures .ready _ _ _ _ (c .before .before .before .before .before .before .before .before .before .before .before .before .before .before .before .loop .inv)) in omega (arith, c .place .ensures .placed-is, c .before .before .before .before .before .before .before .before .before .before .before .before .before .admit .ensures .placed-is, ready-room (c .before .before .before .before .before .before .before .before .before .before .before .before .before .before .before .before .pre .0) ready (omega (arith, c .before .before .before .before .before .before .before .before .before .before .before .if1 .left)))
 
 loop-again : tie.Need-loop-again Inv-loop μ-loop
-loop-again c = let first = c .before .before .before .before .before .before .first-fit .ensures in c .place .ensures .stands _ _ _ (c .before .before .before .before .before .before .before .before .before .before .before .before .before .before .before .before .pre .3) (c .before .before .before .before .before .before .before .before .before .before .before .before .before .before .before .before .pre .2) (cap-is (c .before .before .before .before .before .before .before .before .before .before .before .before .before .before .before .before .pre .0) (c .before .before .before .before .before .before .before .before .before .before .before .before .before .before .before .before .pre .3) ((c .before .before .before .before .before .before .before .before .before .before .before .before .before .admit .ensures .ready _ _ _ _ (c .before .before .before .before .before .before .before .before .before .before .before .before .before .before .before .loop .inv)) .stands .waits) ((c .before .before .before .before .before .before .before .before .before .before .before .before .before .admit .ensures .ready _ _ _ _ (c .before .before .before .before .before .before .before .before .before .before .before .before .before .before .before .loop .inv)) .stands .placed-below) (c .before .before .before .before .before .before .before .before .before .before .before .before .before .before .before .before .pre .4 .least _ (omega arith) ((c .before .before .before .before .before .before .before .before .before .before .before .before .before .admit .ensures .ready _ _ _ _ (c .before .before .before .before .before .before .before .before .before .before .before .before .before .before .before .loop .inv)) .stands .next-within)) (c .before .before .before .before .before .before .before .before .before .cap-of .ensures)) (c .before .before .before .before .before .before .before .before .before .before .before .before .before .admit .ensures .ready _ _ _ _ (c .before .before .before .before .before .before .before .before .before .before .before .before .before .before .before .loop .inv)) (first .holds (omega (arith, first .within, c .before .before .before .before .if2 .left)))
+loop-again c = c .place .ensures .stands _ _ _ (c .before .before .before .before .before .before .before .before .before .before .before .before .before .before .before .before .pre .1) (c .before .before .before .before .before .before .before .before .before .before .before .before .before .before .before .before .pre .3) (c .before .before .before .before .before .before .before .before .before .before .before .before .before .before .before .before .pre .2) (cap-is (c .before .before .before .before .before .before .before .before .before .before .before .before .before .before .before .before .pre .0) (c .before .before .before .before .before .before .before .before .before .before .before .before .before .before .before .before .pre .3) ((c .before .before .before .before .before .before .before .before .before .before .before .before .before .admit .ensures .ready _ _ _ _ (c .before .before .before .before .before .before .before .before .before .before .before .before .before .before .before .loop .inv)) .stands .waits) ((c .before .before .before .before .before .before .before .before .before .before .before .before .before .admit .ensures .ready _ _ _ _ (c .before .before .before .before .before .before .before .before .before .before .before .before .before .before .before .loop .inv)) .stands .placed-below) (c .before .before .before .before .before .before .before .before .before .before .before .before .before .before .before .before .pre .4 .least _ (omega arith) ((c .before .before .before .before .before .before .before .before .before .before .before .before .before .admit .ensures .ready _ _ _ _ (c .before .before .before .before .before .before .before .before .before .before .before .before .before .before .before .loop .inv)) .stands .next-within)) (c .before .before .before .before .before .before .before .before .before .cap-of .ensures)) (c .before .before .before .before .before .before .before .before .before .before .before .before .before .admit .ensures .ready _ _ _ _ (c .before .before .before .before .before .before .before .before .before .before .before .before .before .before .before .loop .inv)) (c .before .before .before .before .before .before .first-fit .ensures)
 
 pub search-spec : {M : Type 1} → statement M
 search-spec =

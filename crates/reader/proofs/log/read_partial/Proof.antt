@@ -1,47 +1,36 @@
--- `read_partial` meets its contract: at each return the tests that led there say which case of `readPartial` holds.
-use Rattle.reader.specs.Log.{readPartial}
-use borrow.Author.Tests.{lt-ltb, le-ltb, eq-eqb, ne-eqb}
+-- `read_partial` meets its contract: behind the header the records are read.
+use mathlib.Core.Path.{sym, ap, _∙_}
+use Rattle.reader.specs.Tables.{surveyed}
+use Rattle.reader.proofs.Scanning.{header-is}
 use borrow.Author.Needs.{needs}
 use Rattle.reader.proofs.log.read_partial.Statement.{statement}
 use Rattle.reader.proofs.log.read_partial.Tie as tie
 
-returns : tie.Need-returns
-unfolding readPartial
-returns c = rw (lt-ltb _ _ (c .if1 .taken))
+read-header-requires : tie.Need-read-header-requires
+read-header-requires c κs = search needs
 
-shared-slice-read-if2 : tie.Need-shared-slice-read-if2
-shared-slice-read-if2 c = search needs
+enum-known-number : tie.Need-enum-known-number
+enum-known-number c = search needs
 
-returns-2 : tie.Need-returns-2
-unfolding readPartial
-returns-2 c = rw (le-ltb _ _ (c .before .before .if1 .left), ne-eqb _ _ (c .if2 .taken))
-
-be16-requires : tie.Need-be16-requires
-be16-requires c κs = search needs
-
-cast-count : tie.Need-cast-count
-cast-count c = search needs
-
-returns-3 : tie.Need-returns-3
-unfolding readPartial
-returns-3 c = rw (le-ltb _ _ (c .before .before .before .before .if1 .left), eq-eqb _ _ (c .before .before .if2 .left), ← (c .before .be16 .ensures), lt-ltb _ _ (c .if3 .taken))
+enum-known-count : tie.Need-enum-known-count
+enum-known-count c = search needs
 
 read-records-requires : tie.Need-read-records-requires
-read-records-requires c κs = search needs
+read-records-requires c κs = header-is (c .before .before .before .before .before .args .log .now) _ (sym (c .before .before .before .read-header .ensures) ∙ c .before .count .given .1) .0
 
-returns-4 : tie.Need-returns-4
-unfolding readPartial
-returns-4 c = rw (le-ltb _ _ (c .before .before .before .before .before .if1 .left), eq-eqb _ _ (c .before .before .before .if2 .left), ← (c .before .before .be16 .ensures), le-ltb _ _ (c .before .if3 .left)) (c .read-records .ensures)
+returns : tie.Need-returns
+returns c = sym (ap surveyed (header-is (c .before .before .before .before .before .args .log .now) _ (sym (c .before .before .before .read-header .ensures) ∙ c .before .number .given .1)))
+
+returns-2 : tie.Need-returns-2
+returns-2 c = c .read-records .ensures ∙ sym (ap surveyed (header-is (c .before .before .before .before .before .before .args .log .now) _ (sym (c .before .before .before .before .read-header .ensures) ∙ c .before .before .count .given .1) .1))
 
 pub read-partial-spec : {M : Type 1} → statement M
 read-partial-spec =
     tie.close
     (tie.spec
-    returns
-    shared-slice-read-if2
-    returns-2
-    be16-requires
-    cast-count
-    returns-3
+    read-header-requires
+    enum-known-number
+    enum-known-count
     read-records-requires
-    returns-4)
+    returns
+    returns-2)

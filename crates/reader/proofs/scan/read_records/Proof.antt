@@ -1,67 +1,36 @@
--- `read_records` meets its contract. The loop's invariant is `Scanned`, in `Scanning.antt`: the tables hold what is kept of
--- the first i records, and the rest of the scan is the whole.
-use Prim.Native.Nat.{_<_, _-_}
-use Rattle.reader.proofs.Scanning.{Scanned, loop-starts, loop-has-room, loop-fits, loop-stops, loop-goes, loop-leaves-bytes, loop-ends}
+-- `read_records` meets its contract: the outcome of `read_all` says what the log is read as.
+use mathlib.Core.Path.{sym, ap}
+use Rattle.reader.specs.Tables.{surveyed}
+use Rattle.reader.proofs.Scanning.{passed-all, passed-not, all-fit, all-surveyed}
 use borrow.Author.Needs.{needs}
-use mathlib.Core.Path.{refl}
-use native.Mathlib.Omega.{arith}
 use Rattle.reader.proofs.scan.read_records.Statement.{statement}
 use Rattle.reader.proofs.scan.read_records.Tie as tie
 
-abbrev Inv-loop : tie.InvT-loop
-Inv-loop log count clients₀ codes₀ values₀ p₀ i₀ clients codes values p i = Scanned log count clients codes values p i
+read-all-requires : tie.Need-read-all-requires
+read-all-requires c κs = search needs
 
-abbrev μ-loop : tie.MeasureT-loop
-μ-loop log count clients₀ codes₀ values₀ p₀ i₀ clients codes values p i = count - i
-
-loop-holds : tie.Need-loop-holds Inv-loop μ-loop
-loop-holds c = loop-starts _ _ _ _ _ refl refl refl
-
-read-record-requires : tie.Need-read-record-requires Inv-loop μ-loop
-read-record-requires c κs = let below : c .before .before .before .before .loop .i < 1024 = omega arith in
-    (below, loop-has-room (c .before .before .before .before .loop .inv) below)
-
-enum-known-number : tie.Need-enum-known-number Inv-loop μ-loop
+enum-known-number : tie.Need-enum-known-number
 enum-known-number c = search needs
 
-returns : tie.Need-returns Inv-loop μ-loop
-returns c = loop-stops (c .before .before .before .before .before .before .before .before .loop .inv) (c .before .before .before .before .before .before .before .loop-test .taken) (c .before .before .before .read-record .ensures) (c .before .number .given .1)
+enum-known-p : tie.Need-enum-known-p
+enum-known-p c = search needs
 
-enum-known-q : tie.Need-enum-known-q Inv-loop μ-loop
-enum-known-q c = search needs
+earliest-remove-requires : tie.Need-earliest-remove-requires
+earliest-remove-requires c κs = all-fit (passed-all (c .before .before .before .before .read-all .ensures) (c .before .before .p .given .1)) (c .before .before .before .before .before .before .before .before .before .pre)
 
-add-i : tie.Need-add-i Inv-loop μ-loop
-add-i c = omega arith
+returns : tie.Need-returns
+returns c = sym (ap surveyed (passed-not (c .before .before .before .read-all .ensures) (c .before .number .given .1)))
 
-loop-less : tie.Need-loop-less Inv-loop μ-loop
-loop-less c = omega arith
-
-loop-again : tie.Need-loop-again Inv-loop μ-loop
-loop-again c = loop-goes (c .before .before .before .before .before .before .before .before .loop .inv) (c .before .before .before .before .before .before .before .loop-test .taken) (c .before .before .before .read-record .ensures) (c .before .q .given .1)
-
-returns-2 : tie.Need-returns-2 Inv-loop μ-loop
-returns-2 c = loop-leaves-bytes (c .before .before .loop .inv) (c .before .loop-test .left) (c .if1 .taken)
-
-earliest-remove-requires : tie.Need-earliest-remove-requires Inv-loop μ-loop
-earliest-remove-requires c κs = loop-fits (c .before .before .before .loop .inv) (c .before .before .before .before .before .pre)
-
-returns-3 : tie.Need-returns-3 Inv-loop μ-loop
-returns-3 c = loop-ends (c .before .before .before .before .loop .inv) (c .before .before .before .loop-test .left) (c .before .before .if1 .left) (c .earliest-remove .ensures)
+returns-2 : tie.Need-returns-2
+returns-2 c = all-surveyed (passed-all (c .before .before .before .before .before .read-all .ensures) (c .before .before .before .p .given .1)) (c .earliest-remove .ensures)
 
 pub read-records-spec : {M : Type 1} → statement M
 read-records-spec =
     tie.close
     (tie.spec
-    Inv-loop
-    μ-loop
-    loop-holds
-    read-record-requires
+    read-all-requires
     enum-known-number
-    returns
-    enum-known-q
-    add-i
-    loop-less
-    loop-again
-    returns-2
+    enum-known-p
     earliest-remove-requires
-    returns-3)
+    returns
+    returns-2)

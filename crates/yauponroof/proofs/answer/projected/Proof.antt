@@ -2,8 +2,8 @@
 use mathlib.Core.Path.{sym, ap, _∙_}
 use Rattle.yauponroof.specs.Answer.{projectionAnswer}
 use borrow.Author.Needs.{needs}
-use Rattle.yauponroof.proofs.projected.Statement.{statement}
-use Rattle.yauponroof.proofs.projected.Tie as tie
+use Rattle.yauponroof.proofs.answer.projected.Statement.{statement}
+use Rattle.yauponroof.proofs.answer.projected.Tie as tie
 
 enum-known-p : tie.Need-enum-known-p
 enum-known-p c = search needs

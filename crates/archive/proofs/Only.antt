@@ -1,0 +1,64 @@
+-- A log has only one archive: the verdict is determined, an order is the one that the search finds, and the excerpt goes by the verdict.
+use Prim.Native.Nat.{ℕ}
+use native.Mathlib.Omega.{arith}
+use native.Mathlib.Decide.{ℕ-discrete}
+use mathlib.Core.Path.{_≡_, refl, sym, ap, _∙_}
+use mathlib.Core.Logic.{_⊎_, inl, inr}
+use mathlib.Core.List.{List, []}
+use Rattle.reader.specs.Log.{readable, readLog, encodeLog}
+use Rattle.reader.specs.declared.record.Record.{Record}
+use Rattle.reader.proofs.Laws.{readable-log}
+use Rattle.history.specs.History.{Lawful}
+use Rattle.history.specs.Operations.{historyOf}
+use Rattle.history.specs.Sheet.{orderVerdict, sheetOf, listedOn}
+use Rattle.history.proofs.Laws.{history-lawful}
+use Rattle.violations.specs.Violations.{NoViolation}
+use Rattle.violations.specs.Verdict.{FirstViolation}
+use Rattle.violations.proofs.Laws.{SomeViolation, first-violation, excluded, verdict-one, listed-one, zero-is-linearization, pattern-of}
+use Rattle.projection.specs.Projection.{excerpted}
+use Rattle.projection.specs.Outcome.{excerptAnswerOf, excerptAnswer}
+use Rattle.projection.specs.declared.write.Projected.the-variants.{Written}
+use Rattle.archive.specs.Archive.{verdictByte, Archive, with-order, with-pattern}
+use Rattle.archive.proofs.Contents.{Contents, archive-contents, archive-excerpt}
+
+-- the history that a sheet is about is lawful
+contents-lawful : {log sheet : List ℕ} (c : Contents log sheet) → Lawful (historyOf (c .records))
+contents-lawful {log} c = history-lawful (readable-log log (c .records) (c .reads))
+
+-- one log has one sheet
+contents-one : {log sheet sheet' : List ℕ} → Contents log sheet → Contents log sheet' → sheet ≡ sheet'
+contents-one {sheet = sheet} {sheet' = sheet'} c d =
+    let read : readable (d .records) ≡ readable (c .records) = sym (d .reads) ∙ c .reads in
+    let same : d .records ≡ c .records = cc in
+    let byte : verdictByte sheet ≡ verdictByte sheet' = verdict-one (contents-lawful c) (c .verdict) (rw same at (d .verdict)) .0 in
+    let lists : listedOn sheet ≡ listedOn sheet' = listed-one (contents-lawful c) (c .verdict) (c .chosen) (rw same at (d .verdict)) (rw same at (d .chosen)) in
+    c .whole ∙ ap (λ b. sheetOf b (listedOn sheet)) byte ∙ ap (sheetOf (verdictByte sheet')) lists ∙ sym (d .whole)
+
+-- with an order no excerpt is written
+unwritten : {log sheet : List ℕ} (c : Contents log sheet) → verdictByte sheet ≡ orderVerdict → (out : List ℕ) {n : ℕ} → excerptAnswer (readLog log) out ≡ Written n → ⊥
+unwritten c e out {n} wrote = go (first-violation (historyOf (c .records))) (rw (c .reads) at wrote)
+  where
+    go : (found : SomeViolation (historyOf (c .records)) ⊎ NoViolation (historyOf (c .records))) → excerptAnswerOf (c .records) found out ≡ Written n → ⊥
+    go (inl (number, listed, first)) w = excluded (contents-lawful c) (zero-is-linearization (c .verdict) e .legal) (first .occurs)
+    go (inr clean) w = let z : _≡_ {A = ℕ} 0 1 = cc in omega arith
+
+order-alone : {log sheet excerpt : List ℕ} → Archive log sheet excerpt → Contents log sheet → verdictByte sheet ≡ orderVerdict → excerpt ≡ []
+order-alone (with-order j) c e = refl
+order-alone (with-pattern j out wrote) c e = absurd (unwritten c e out wrote)
+
+pub archive-one : {log sheet sheet' excerpt excerpt' : List ℕ} → Archive log sheet excerpt → Archive log sheet' excerpt' → (sheet ≡ sheet') × (excerpt ≡ excerpt')
+archive-one {log} {sheet} {sheet'} {excerpt} {excerpt'} x y = (same, go (ℕ-discrete (verdictByte sheet) orderVerdict))
+  where
+    c : Contents log sheet
+    c = archive-contents x
+
+    same : sheet ≡ sheet'
+    same = contents-one c (archive-contents y)
+
+    with-first : (records : List Record) → readLog log ≡ readable records → FirstViolation (historyOf records) (verdictByte sheet) (listedOn sheet) → (verdictByte sheet ≡ orderVerdict → ⊥) → excerpt ≡ excerpt'
+    with-first records reads first n =
+        archive-excerpt x records reads first n ∙ ap (λ s. encodeLog (excerpted records (listedOn s))) same ∙ sym (archive-excerpt y records reads (rw same at first) (λ e. n (ap verdictByte same ∙ e)))
+
+    go : Dec (verdictByte sheet ≡ orderVerdict) → excerpt ≡ excerpt'
+    go (yes e) = order-alone x c e ∙ sym (order-alone y (archive-contents y) (ap verdictByte (sym same) ∙ e))
+    go (no n) = with-first (c .records) (c .reads) (pattern-of (c .verdict) n) n

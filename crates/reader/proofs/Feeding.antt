@@ -1,0 +1,55 @@
+-- Bytes that are handed in as one record behind a log: where nothing is wrong with them they are a record's, which can be written behind the others;
+-- and with the bytes of a record that can be written nothing is wrong.
+use Prim.Native.Nat.{ℕ, _+_}
+use native.Mathlib.Omega.{arith}
+use mathlib.Core.Path.{_≡_, refl, sym, ap, _∙_}
+use mathlib.Core.Bool.{Bool, true, false, not}
+use mathlib.Core.List.{List, [], _∷_, _++_, reverse, reverse-cons, append-assoc, append-nil}
+use lib.ListN.{length, getD, take}
+use lib.Seq.{take-length}
+use borrow.Author.Tests.{eqb-true, eq-eqb}
+use Rattle.reader.specs.Choice.{if_then_else_}
+use Rattle.reader.specs.Record.{encode, decodeAt}
+use Rattle.reader.specs.Log.{fault}
+use Rattle.reader.specs.Feed.{isOneRecord, decodedFault, faultBehind}
+use Rattle.reader.specs.Readable.{Bytes, sizeOf, Small, Writable}
+use Rattle.reader.specs.declared.record.Record.{Record}
+use Rattle.reader.specs.declared.record.Decoded.{Decoded}
+use Rattle.reader.specs.declared.record.Decoded.the-variants.{Found, Malformed}
+use Rattle.reader.proofs.Bounds.{Known, decode-known}
+use Rattle.reader.proofs.Bytes.{decode-inverts, record-back, small-there}
+use Rattle.reader.proofs.Encoding.{encode-length, decode-encodes}
+
+-- The bytes are those of a record that can be written behind the past.
+pub record RecordBehind (past : List Record) (bytes : List ℕ) : Type 0 where
+  pub is : Record
+  pub bytes-are : bytes ≡ encode is
+  pub small : Small is
+  pub ok : fault past is ≡ 0
+
+pub faultless-is-record : (past : List Record) (bytes : List ℕ) → Bytes bytes → faultBehind past bytes ≡ 0 → RecordBehind past bytes
+unfolding faultBehind
+faultless-is-record past bytes b z = go (isOneRecord bytes) refl z
+  where
+    decoded : (d : Decoded) → decodeAt bytes 0 ≡ d → length bytes ≡ getD bytes 0 0 + 1 → decodedFault past d ≡ 0 → RecordBehind past bytes
+    decoded (Found r next) e one z =
+        let s = decode-inverts bytes 0 e in
+        let whole : sizeOf r ≡ length bytes = omega (arith, s .long) in
+        record { is = r; bytes-are = sym (record-back s b ∙ ap (λ n. take n bytes) whole ∙ take-length bytes); small = small-there s b; ok = z }
+    decoded (Malformed number) e one z = let known : Known (Malformed number) = rw e at (decode-known bytes 0) in absurd (omega (arith, known .0))
+
+    go : (t : Bool) → isOneRecord bytes ≡ t → (if not t then 1 else decodedFault past (decodeAt bytes 0)) ≡ 0 → RecordBehind past bytes
+    go true t z = decoded (decodeAt bytes 0) refl (eqb-true (length bytes) (getD bytes 0 0 + 1) t) z
+    go false t z = absurd (omega (arith, z))
+
+pub record-is-faultless : (past : List Record) (r : Record) → Small r → fault past r ≡ 0 → faultBehind past (encode r) ≡ 0
+unfolding faultBehind encode
+record-is-faultless past r small ok =
+    let found : decodeAt (encode r) 0 ≡ Found r (0 + sizeOf r) = rw (append-nil (encode r)) at (decode-encodes [] [] r small) in
+    rw (eq-eqb (length (encode r)) (getD (encode r) 0 0 + 1) (omega (arith, encode-length r)), found) ok
+
+-- one record more can be written behind those that can be
+pub writable-more : {past records : List Record} {r : Record} → Writable past records → Small r → fault (reverse records ++ past) r ≡ 0 → Writable past (records ++ (r ∷ []))
+writable-more Writable.none small ok = Writable.more small ok Writable.none
+writable-more {past} (Writable.more {records = records} {r = x} before fine rest) small ok =
+    Writable.more before fine (writable-more rest small (rw (reverse-cons x records, append-assoc (reverse records) (x ∷ []) past) at ok))

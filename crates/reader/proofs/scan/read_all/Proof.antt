@@ -1,0 +1,63 @@
+-- `read_all` meets its contract. The loop's invariant is `Scanned`, in `Scanning.antt`: the tables hold what is kept of
+-- the first i records, and the rest of the scan is the whole.
+use Prim.Native.Nat.{_<_, _-_}
+use native.Mathlib.Omega.{arith}
+use borrow.Author.Needs.{needs}
+use Rattle.reader.specs.Tables.{through, stopped}
+use Rattle.reader.proofs.Scanning.{Scanned, loop-starts, loop-has-room, loop-stops, loop-goes, loop-leaves-bytes, loop-ends}
+use Rattle.reader.proofs.scan.read_all.Statement.{statement}
+use Rattle.reader.proofs.scan.read_all.Tie as tie
+
+abbrev Inv-loop : tie.InvT-loop
+Inv-loop log count clients₀ codes₀ values₀ p₀ i₀ clients codes values p i = Scanned log count clients codes values p i
+
+abbrev μ-loop : tie.MeasureT-loop
+μ-loop log count clients₀ codes₀ values₀ p₀ i₀ clients codes values p i = count - i
+
+loop-holds : tie.Need-loop-holds Inv-loop μ-loop
+loop-holds c = loop-starts _ _ _ _ _ (c .before .pre .1) (c .before .pre .2) (c .before .pre .3)
+
+read-record-requires : tie.Need-read-record-requires Inv-loop μ-loop
+read-record-requires c κs = let below : c .before .before .before .before .loop .i < 1024 = omega arith in
+    (below, loop-has-room (c .before .before .before .before .loop .inv) below)
+
+enum-known-number : tie.Need-enum-known-number Inv-loop μ-loop
+enum-known-number c = search needs
+
+returns : tie.Need-returns Inv-loop μ-loop
+returns c = stopped (loop-stops (c .before .before .before .before .before .before .before .before .loop .inv) (c .before .before .before .before .before .before .before .loop-test .taken) (c .before .before .before .read-record .ensures) (c .before .number .given .1))
+
+enum-known-q : tie.Need-enum-known-q Inv-loop μ-loop
+enum-known-q c = search needs
+
+add-i : tie.Need-add-i Inv-loop μ-loop
+add-i c = omega arith
+
+loop-less : tie.Need-loop-less Inv-loop μ-loop
+loop-less c = omega arith
+
+loop-again : tie.Need-loop-again Inv-loop μ-loop
+loop-again c = loop-goes (c .before .before .before .before .before .before .before .before .loop .inv) (c .before .before .before .before .before .before .before .loop-test .taken) (c .before .before .before .read-record .ensures) (c .before .q .given .1)
+
+returns-2 : tie.Need-returns-2 Inv-loop μ-loop
+returns-2 c = stopped (loop-leaves-bytes (c .before .before .loop .inv) (c .before .loop-test .left) (c .if1 .taken))
+
+returns-3 : tie.Need-returns-3 Inv-loop μ-loop
+returns-3 c = through (loop-ends (c .before .before .loop .inv) (c .before .loop-test .left) (c .if1 .left))
+
+pub read-all-spec : {M : Type 1} → statement M
+read-all-spec =
+    tie.close
+    (tie.spec
+    Inv-loop
+    μ-loop
+    loop-holds
+    read-record-requires
+    enum-known-number
+    returns
+    enum-known-q
+    add-i
+    loop-less
+    loop-again
+    returns-2
+    returns-3)

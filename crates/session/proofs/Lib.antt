@@ -1,0 +1,5 @@
+pub mod Refusing
+pub mod Holding
+pub mod Feeding
+pub mod Bounds
+pub mod Laws

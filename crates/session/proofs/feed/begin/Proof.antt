@@ -1,0 +1,22 @@
+-- `begin` meets its contract: a header of no records is the empty log.
+use mathlib.Core.Path.{refl}
+use borrow.Author.Tests.{lt-ltb, le-ltb}
+use Rattle.session.proofs.Refusing.{begin-put}
+use borrow.Author.Needs.{needs}
+use Rattle.session.proofs.feed.begin.Statement.{statement}
+use Rattle.session.proofs.feed.begin.Tie as tie
+
+returns : tie.Need-returns
+returns c = (rw (lt-ltb _ _ (c .if1 .taken)) refl, rw (lt-ltb _ _ (c .if1 .taken)) refl)
+
+write-header-requires : tie.Need-write-header-requires
+write-header-requires c κs = search needs
+
+same-length : tie.Need-same-length
+same-length c = search needs
+
+returns-2 : tie.Need-returns-2
+returns-2 c = (rw (le-ltb _ _ (c .before .before .before .before .if1 .left)) refl, begin-put _ _ (c .before .before .before .before .if1 .left) (c .before .before .write-header .ensures))
+
+pub begin-spec : {M : Type 1} → statement M
+begin-spec = tie.close (tie.spec returns write-header-requires same-length returns-2)

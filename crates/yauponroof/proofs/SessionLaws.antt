@@ -1,0 +1,187 @@
+-- What the session calls say to a C caller, and that a session gives what the log gives: the laws of the crate session, over the contracts of the calls.
+use Prim.Native.Nat.{ℕ, zero, suc, _+_, _≤_}
+use native.Mathlib.Omega.{arith}
+use mathlib.Core.Path.{_≡_, refl, sym, ap, _∙_}
+use mathlib.Core.Bool.{Bool, true, false, not}
+use mathlib.Core.List.{List, [], _∷_, _++_, map}
+use lib.ListN.{length, take, drop}
+use lib.Dec.{eqb}
+use borrow.Author.Tests.{eqb-false}
+use Rattle.reader.specs.Choice.{if_then_else_}
+use Rattle.reader.specs.Buffer.{bufferTooShort, lacksRoom, put}
+use Rattle.reader.specs.Record.{encode}
+use Rattle.reader.specs.Log.{headerLength, countField, withCount, Reading, refused, readable, readPartial, readLog}
+use Rattle.reader.specs.Readable.{Bytes, sizeOf}
+use Rattle.reader.specs.declared.record.Record.{Record}
+use Rattle.judge.specs.Judge as Judge
+use Rattle.judge.specs.Judge.{sheetBytes, Judges}
+use Rattle.judge.specs.declared.judge.Verdict.{Verdict}
+use Rattle.projection.specs.Outcome.{excerptAnswer, excerptLeaves}
+use Rattle.projection.specs.declared.write.Projected.{Projected}
+use Rattle.projection.specs.declared.write.Projected.the-variants as projection
+use Rattle.session.specs.Session.{openStage, closedStage, heldLog, stageRefusal, sessionReading, emptyLog, feedAnswer, fedBuffer, stageBegun, usedBegun, usedFed, stageClosed}
+use Rattle.session.specs.Course.{Lent, begun, answerTo, afterFeed, afterClose, Closes, Since, then-closed, afterFeeds, answersTo, logOf}
+use Rattle.session.specs.declared.answer.Answer.{Answer}
+use Rattle.session.specs.declared.answer.Answer.the-variants as session
+use Rattle.session.proofs.Bounds.{Within, feed-within}
+use Rattle.session.proofs.Laws.{feeds-are, begin-accepted, feeds-accepted, fed-since, feeding-is-judging, sheet-is-judging, excerpt-is}
+use Rattle.yauponroof.specs.Answer.{judgeAnswer, JudgeAnswers, projectionAnswer}
+use Rattle.yauponroof.specs.Session.{writingAnswer, BeginAnswers, FeedAnswers, CloseAnswers, SheetAnswers, ExcerptAnswers, FeedsAnswer, none, more}
+use Rattle.yauponroof.proofs.Laws.{Accepted, TurnedDown, small-accepted, refusal-turned-down, session-known, judges-one, answers-one, excerpt-untouched, JudgeSays, wrote, turned-down, judge-says, Fine, fine-refused, written-accepted, projection-turned-down, excerpt-fine}
+
+-- What the number that begin answers says: three bytes were written and the session is open, or all is as it was.
+pub data BeginSays (stage used : ℕ) (buffer : List ℕ) (stage' used' : ℕ) (buffer' : List ℕ) (answer : ℕ) : Type 0 where
+  begins : Accepted answer headerLength → stage' ≡ openStage → used' ≡ headerLength → buffer' ≡ emptyLog ++ drop headerLength buffer → BeginSays stage used buffer stage' used' buffer' answer
+  refuses : TurnedDown answer bufferTooShort 0 → stage' ≡ stage → used' ≡ used → buffer' ≡ buffer → BeginSays stage used buffer stage' used' buffer' answer
+
+pub begin-says : {stage used stage' used' answer : ℕ} {buffer buffer' : List ℕ} → BeginAnswers stage used buffer stage' used' buffer' answer → BeginSays stage used buffer stage' used' buffer' answer
+begin-says {stage} {used} {stage'} {used'} {answer} {buffer} {buffer'} a = go (lacksRoom emptyLog buffer) (a .answers) (a .stage-is) (a .used-is) (a .leaves)
+  where
+    go : (lacks : Bool) → answer ≡ writingAnswer (if lacks then session.Refused bufferTooShort 0 else session.Accepted 3) → stage' ≡ stageBegun stage (if lacks then session.Refused bufferTooShort 0 else session.Accepted 3)
+        → used' ≡ usedBegun used (if lacks then session.Refused bufferTooShort 0 else session.Accepted 3) → buffer' ≡ (if lacks then buffer else emptyLog ++ drop (length emptyLog) buffer)
+        → BeginSays stage used buffer stage' used' buffer' answer
+    go true e s u b = refuses (rw e (refusal-turned-down bufferTooShort 0 (omega arith) (omega arith))) s u b
+    go false e s u b = begins (rw e (small-accepted 3 (omega arith))) s u b
+
+-- What the number that feed answers says: a record of so many bytes was put behind the used ones and is counted, or all is as it was.
+pub data FeedSays (stage used : ℕ) (buffer bytes : List ℕ) (stage' used' : ℕ) (buffer' : List ℕ) (answer : ℕ) : Type 0 where
+  takes : {n : ℕ} → Accepted answer n → stage' ≡ stage → used' ≡ used + n → buffer' ≡ put used bytes (withCount (countField buffer + 1) buffer) → FeedSays stage used buffer bytes stage' used' buffer' answer
+  refuses : {number index : ℕ} → TurnedDown answer number index → stage' ≡ stage → used' ≡ used → buffer' ≡ buffer → FeedSays stage used buffer bytes stage' used' buffer' answer
+
+pub feed-says : {stage used stage' used' answer : ℕ} {buffer bytes buffer' : List ℕ} → FeedAnswers stage used buffer bytes stage' used' buffer' answer → FeedSays stage used buffer bytes stage' used' buffer' answer
+feed-says {stage} {used} {stage'} {used'} {answer} {buffer} {bytes} {buffer'} a = go (feedAnswer stage used buffer bytes) (feed-within stage used buffer bytes) (a .answers) (a .used-is) (a .leaves)
+  where
+    go : (given : Answer) → Within used given → answer ≡ writingAnswer given → used' ≡ usedFed used given → buffer' ≡ fedBuffer given used buffer bytes → FeedSays stage used buffer bytes stage' used' buffer' answer
+    go (session.Accepted n) small e u b = takes {n = n} (rw e (small-accepted n (omega (arith, small .0)))) (a .stage-is) u b
+    go (session.Refused number index) small e u b = refuses {number = number} {index = index} (rw e (refusal-turned-down number index (small .0) (omega (arith, small .1)))) (a .stage-is) u b
+
+-- What the number that close answers says: the sheet was written and the session is closed, or all is as it was.
+pub data CloseSays (stage used : ℕ) (buffer sheet : List ℕ) (stage' used' : ℕ) (sheet' : List ℕ) (answer : ℕ) : Type 0 where
+  closes : {verdict : Verdict} → Judge.Accepted verdict → Judges (sessionReading openStage stage used buffer) sheet verdict sheet' → Accepted answer (sheetBytes verdict) → stage' ≡ closedStage → used' ≡ used
+      → CloseSays stage used buffer sheet stage' used' sheet' answer
+  refuses : {number index : ℕ} → TurnedDown answer number index → stage' ≡ stage → used' ≡ used → sheet' ≡ sheet → CloseSays stage used buffer sheet stage' used' sheet' answer
+
+pub close-says : {stage used stage' used' answer : ℕ} {buffer sheet sheet' : List ℕ} → CloseAnswers stage used buffer sheet stage' used' sheet' answer → CloseSays stage used buffer sheet stage' used' sheet' answer
+close-says {stage} {used} {stage'} {used'} {answer} {buffer} {sheet} {sheet'} a = go (judge-says (session-known openStage stage used buffer) (a .judged))
+  where
+    -- the verdict is the one that the stage goes by
+    stage-by : {verdict : Verdict} → Judges (sessionReading openStage stage used buffer) sheet verdict sheet' → stage' ≡ stageClosed stage verdict
+    stage-by j = a .stage-is ∙ ap (stageClosed stage) (judges-one (session-known openStage stage used buffer) (a .judged .judges) j .0)
+
+    closed : {verdict : Verdict} → Judge.Accepted verdict → stageClosed stage verdict ≡ closedStage
+    closed Judge.order = refl
+    closed Judge.pattern = refl
+
+    go : JudgeSays (sessionReading openStage stage used buffer) sheet answer sheet' → CloseSays stage used buffer sheet stage' used' sheet' answer
+    go (wrote accepted j e) = closes accepted j e (stage-by j ∙ closed accepted) (a .used-is)
+    go (turned-down j e same) = refuses e (stage-by j) (a .used-is) same
+
+-- What the number that the excerpt of a session answers says: so many bytes were written, or the buffer is as it was.
+pub data ExcerptSays (stage used : ℕ) (buffer out : List ℕ) (answer : ℕ) (out' : List ℕ) : Type 0 where
+  writes : {n : ℕ} → excerptAnswer (sessionReading closedStage stage used buffer) out ≡ projection.Written n → Accepted answer n → ExcerptSays stage used buffer out answer out'
+  refuses : {number index : ℕ} → TurnedDown answer number index → out' ≡ out → ExcerptSays stage used buffer out answer out'
+
+-- the bytes of the log that is held are those of the buffer
+taken-bytes : (n : ℕ) (buffer : List ℕ) → Bytes buffer → Bytes (take n buffer)
+taken-bytes zero buffer bytes i = omega arith
+taken-bytes (suc n) [] bytes i = omega arith
+taken-bytes (suc n) (x ∷ buffer) bytes zero = bytes zero
+taken-bytes (suc n) (x ∷ buffer) bytes (suc i) = taken-bytes n buffer (λ j. bytes (suc j)) i
+
+-- of a session's excerpt: as of a log's, or a refusal by how the session stands
+pub session-excerpt-fine : (stage used : ℕ) (buffer : List ℕ) → Bytes buffer → (out : List ℕ) → Fine (excerptAnswer (sessionReading closedStage stage used buffer) out)
+session-excerpt-fine stage used buffer bytes out = go (eqb (stageRefusal closedStage stage used buffer) 0) refl
+  where
+    go : (t : Bool) → eqb (stageRefusal closedStage stage used buffer) 0 ≡ t → Fine (excerptAnswer (if not t then refused (stageRefusal closedStage stage used buffer) 0 else readLog (heldLog used buffer)) out)
+    go true t = excerpt-fine (heldLog used buffer) (taken-bytes used buffer bytes) out
+    go false t = fine-refused {number = stageRefusal closedStage stage used buffer} {index = 0} (omega (arith, eqb-false (stageRefusal closedStage stage used buffer) 0 t)) (omega arith)
+
+pub excerpt-says : {stage used answer : ℕ} {buffer out out' : List ℕ} → Bytes buffer → ExcerptAnswers stage used buffer out answer out' → ExcerptSays stage used buffer out answer out'
+excerpt-says {stage} {used} {answer} {buffer} {out} {out'} bytes a = go (excerptAnswer reading out) refl (session-excerpt-fine stage used buffer bytes out) (a .answers)
+  where
+    reading : Reading
+    reading = sessionReading closedStage stage used buffer
+
+    go : (given : Projected) → excerptAnswer (sessionReading closedStage stage used buffer) out ≡ given → Fine given → answer ≡ projectionAnswer given → ExcerptSays stage used buffer out answer out'
+    go (projection.Written n) e fine is = writes {n = n} e (rw is (written-accepted fine))
+    go (projection.Refused number index) e fine is = refuses {number = number} {index = index} (rw is (projection-turned-down fine)) (a .leaves ∙ excerpt-untouched (sessionReading closedStage stage used buffer) out e)
+
+-- "For each entry the result, the session and every lent byte follow from the input, refusals too": begin, feed and excerpt are equations; closing and
+-- the sheet have one outcome.
+pub close-one : {stage used stage' used' stage'' used'' answer answer' : ℕ} {buffer sheet left left' : List ℕ} → CloseAnswers stage used buffer sheet stage' used' left answer → CloseAnswers stage used buffer sheet stage'' used'' left' answer'
+    → (answer ≡ answer') × (stage' ≡ stage'') × (used' ≡ used'') × (left ≡ left')
+close-one {stage} {used} {buffer = buffer} a b =
+    let known = session-known openStage stage used buffer in
+    let (answers, sheets) = answers-one known (a .judged) (b .judged) in
+    (answers, a .stage-is ∙ ap (stageClosed stage) (judges-one known (a .judged .judges) (b .judged .judges) .0) ∙ sym (b .stage-is), a .used-is ∙ sym (b .used-is), sheets)
+
+pub sheet-one : (stage used : ℕ) (buffer : List ℕ) {answer answer' : ℕ} {sheet left left' : List ℕ} → SheetAnswers stage used buffer sheet answer left → SheetAnswers stage used buffer sheet answer' left' → (answer ≡ answer') × (left ≡ left')
+sheet-one stage used buffer a b = answers-one (session-known closedStage stage used buffer) a b
+
+-- calls of feed are feeds, one after the other
+abbrev lent : ℕ → ℕ → List ℕ → Lent
+lent stage used buffer = record { stage = stage; used = used; buffer = buffer }
+
+feeds-follow : {stage used stage' used' : ℕ} {buffer buffer' answers : List ℕ} {feeds : List (List ℕ)} → FeedsAnswer stage used buffer feeds answers stage' used' buffer'
+    → (lent stage' used' buffer' ≡ afterFeeds (lent stage used buffer) feeds) × (answers ≡ map writingAnswer (answersTo (lent stage used buffer) feeds))
+unfolding afterFeeds answersTo
+feeds-follow none = (refl, refl)
+feeds-follow (more {stage} {used} {stage'} {used'} {buffer = buffer} {buffer'} {bytes = bytes} {answers = others} {feeds = feeds} a rest) =
+    let first : lent stage' used' buffer' ≡ afterFeed (lent stage used buffer) bytes = cc (a .stage-is, a .used-is, a .leaves) in
+    let (left, answers) = feeds-follow rest in (
+      left ∙ ap (λ s. afterFeeds s feeds) first,
+      ap (λ x. x ∷ others) (a .answers) ∙ ap (λ xs. writingAnswer (answerTo (lent stage used buffer) bytes) ∷ xs) (answers ∙ ap (λ s. map writingAnswer (answersTo s feeds)) first),
+    )
+
+-- the answers of accepted feeds are the sizes of the records
+sizes-answered : (records : List Record) → map writingAnswer (map (λ r. session.Accepted (sizeOf r)) records) ≡ map sizeOf records
+sizes-answered [] = refl
+sizes-answered (r ∷ records) = ap (λ xs. sizeOf r ∷ xs) (sizes-answered records)
+
+-- "For a log that is readable, or is so but for 10, and buffers long enough, feeding its records and closing answers as judging the log does": begin
+-- returns 3, each feed 1 + L, and close the number that judging the log returns, a refusal and its index included, with the same bytes left.
+module _ (log : List ℕ) (bytes : Bytes log) (records : List Record) (reads : readPartial log ≡ readable records) {buffer : List ℕ} (room : length log ≤ length buffer)
+    {stage used stage₀ used₀ began : ℕ} {buffer₀ : List ℕ} (begin : BeginAnswers stage used buffer stage₀ used₀ buffer₀ began)
+    {stage₁ used₁ : ℕ} {buffer₁ answers : List ℕ} (feeds : FeedsAnswer stage₀ used₀ buffer₀ (map encode records) answers stage₁ used₁ buffer₁)
+    {sheet left : List ℕ} {stage₂ used₂ answer : ℕ} (close : CloseAnswers stage₁ used₁ buffer₁ sheet stage₂ used₂ left answer) where
+  begins-as : lent stage₀ used₀ buffer₀ ≡ begun buffer
+  begins-as =
+      let accepted = begin-accepted log buffer bytes records reads room in
+      cc (begin .stage-is ∙ ap (stageBegun stage) accepted, begin .used-is ∙ ap (usedBegun used) accepted, begin .leaves)
+
+  fed-as : lent stage₁ used₁ buffer₁ ≡ afterFeeds (begun buffer) (map encode records)
+  fed-as = feeds-follow feeds .0 ∙ ap (λ s. afterFeeds s (map encode records)) begins-as
+
+  pub begin-returns : began ≡ headerLength
+  begin-returns = begin .answers ∙ ap writingAnswer (begin-accepted log buffer bytes records reads room)
+
+  pub feeds-return : answers ≡ map sizeOf records
+  feeds-return = feeds-follow feeds .1 ∙ ap (λ s. map writingAnswer (answersTo s (map encode records))) begins-as ∙ ap (map writingAnswer) (feeds-accepted log buffer bytes records reads room) ∙ sizes-answered records
+
+  closes-as : Closes (afterFeeds (begun buffer) (map encode records)) sheet (close .judged .verdict) left
+  closes-as = rw (← fed-as) (record { judges = close .judged .judges })
+
+  pub close-returns : {answer' : ℕ} {left' : List ℕ} → JudgeAnswers (readLog log) sheet answer' left' → (answer ≡ answer') × (left ≡ left')
+  close-returns judged =
+      let (same, sheets) = feeding-is-judging log buffer bytes records reads room closes-as (judged .judges) in
+      (close .judged .answers ∙ ap judgeAnswer same ∙ sym (judged .answers), sheets)
+
+  -- "a session closed on that log gives the same bytes": the sheet and the excerpt of the session, where it was closed, are those of the log
+  module _ (closed : stage₂ ≡ closedStage) where
+    closed-as : lent stage₂ used₂ buffer₁ ≡ afterClose (afterFeeds (begun buffer) (map encode records)) (close .judged .verdict)
+    closed-as = rw (← fed-as) (cc (close .stage-is, close .used-is))
+
+    since : Since buffer (map encode records) (lent stage₂ used₂ buffer₁)
+    since = rw closed-as (then-closed (fed-since log buffer bytes records reads room) (close .judged .verdict) closes-as)
+
+    pub sheet-returns : {sheet' left' left'' : List ℕ} {answer' answer'' : ℕ} → SheetAnswers stage₂ used₂ buffer₁ sheet' answer' left' → JudgeAnswers (readLog log) sheet' answer'' left'' → (answer' ≡ answer'') × (left' ≡ left'')
+    sheet-returns {sheet'} {left'' = left''} again judged =
+        let judges : Judges (readLog (logOf (map encode records))) sheet' (judged .verdict) left'' = rw (feeds-are log buffer bytes records reads room) (judged .judges) in
+        let (same, sheets) = sheet-is-judging since closed (again .judges) judges in
+        (again .answers ∙ ap judgeAnswer same ∙ sym (judged .answers), sheets)
+
+    pub excerpt-returns : {out out' : List ℕ} {answer' : ℕ} → ExcerptAnswers stage₂ used₂ buffer₁ out answer' out' → (answer' ≡ projectionAnswer (excerptAnswer (readLog log) out)) × (out' ≡ excerptLeaves (readLog log) out)
+    excerpt-returns {out} excerpt =
+        let (answers, leaves) = excerpt-is since closed out in
+        let same = feeds-are log buffer bytes records reads room in
+        (excerpt .answers ∙ ap projectionAnswer (answers ∙ ap (λ l. excerptAnswer (readLog l) out) same), excerpt .leaves ∙ leaves ∙ ap (λ l. excerptLeaves (readLog l) out) same)

@@ -1,0 +1,43 @@
+// The number that a call answers: what it returns, or a refusal. specs/Answer.antt says which number each outcome is.
+ghost use mathlib.Core.Path.{_≡_};
+ghost use Prim.Native.Nat.{_<_};
+ghost use Rattle.yauponroof.specs.Answer.{refusalUnit, refusal, judgeAnswer, Modest, projectionAnswer, indexOf};
+use judge::judge::Verdict;
+use projection::write::Projected;
+
+// What a refusal's number is multiplied by: it stands in the high 32 bits.
+const REFUSAL_UNIT: u64 = 4294967296;
+
+// A refusal as an answer.
+pub fn refuse(number: u32, index: usize) -> u64
+    requires { ⌜ index < refusalUnit ⌝ }
+    ensures { λ r. ⌜ r ≡ refusal number index ⌝ }
+{
+    (number as u64) * REFUSAL_UNIT + index as u64
+}
+
+// The bytes of a sheet before the operations that it lists.
+const SHEET_HEADER: usize = 4;
+
+// The verdict of judging as an answer.
+pub fn judged(v: Verdict) -> u64
+    requires { ⌜ Modest v ⌝ }
+    ensures { λ r. ⌜ r ≡ judgeAnswer v ⌝ }
+{
+    match v {
+        Verdict::Order(listed) => (SHEET_HEADER + 2 * listed) as u64,
+        Verdict::Pattern { number: _, listed } => (SHEET_HEADER + 2 * listed) as u64,
+        Verdict::Refused { number, index } => refuse(number, index),
+    }
+}
+
+// A log that was written, or a refusal, as an answer.
+pub fn projected(p: Projected) -> u64
+    requires { ⌜ indexOf p < refusalUnit ⌝ }
+    ensures { λ r. ⌜ r ≡ projectionAnswer p ⌝ }
+{
+    match p {
+        Projected::Written(bytes) => bytes as u64,
+        Projected::Refused { number, index } => refuse(number, index),
+    }
+}
