@@ -91,7 +91,8 @@
  * A session fits its buffer if the stage is YR_OPEN or YR_CLOSED, no more bytes are used than the
  * buffer has, and these are a readable log, or in an open session are so but for 10. All functions
  * but yr_begin test that at every call and so read the whole log held: a feed takes about as long as
- * yr_check on it.
+ * yr_check on it. The buffer may be lent with another length at each call, and may even be another
+ * one, as long as it begins with the used bytes.
  *
  * Rules for every function
  * ------------------------
@@ -165,10 +166,17 @@ typedef struct yr_session {
 
 /*
  * All refusals. Those from 1 to 11 concern what was handed in, those from 20 on how things stand.
- * A refused call writes nothing, also not to a session. Of whole logs all functions give 1 to 10;
- * besides yr_replay gives 11, yr_judge and yr_narrow 24, and yr_excerpt 23 and 24. Of sessions
- * yr_begin gives 24, yr_feed 1, 4 to 9, 20, 21, 24 and 25, yr_close 10, 20, 24 and 25, yr_sheet 22,
- * 24 and 25, and yr_session_excerpt 22 to 25.
+ * A refused call writes nothing, neither to a buffer nor to a session.
+ *
+ *     yr_check                1 to 10
+ *     yr_replay               1 to 11
+ *     yr_judge, yr_narrow     1 to 10, 24
+ *     yr_excerpt              1 to 10, 23, 24
+ *     yr_begin                24
+ *     yr_feed                 1, 4 to 9, 20, 21, 24, 25
+ *     yr_close                10, 20, 24, 25
+ *     yr_sheet                22, 24, 25
+ *     yr_session_excerpt      22 to 25
  */
 enum yr_refusal {
     YR_REFUSAL_BYTES = 1,            /* fewer than 3 bytes; the bytes end before or inside a record;
@@ -268,8 +276,9 @@ yr_answer yr_replay(const uint8_t *log, size_t log_len, const uint8_t *sheet, si
  *
  * If some order is legal for the log, the verdict is 0 and the sheet lists a legal order, to which
  * yr_replay says yes. It has every operation that returned, and an add without return exactly if its
- * value was removed. Where several such orders are legal, any of them may be listed. Otherwise the
- * verdict is the number of the pattern that is told, 1 to 6, and the sheet lists its operations.
+ * value was removed. Where several such orders are legal, it is always the same one for one log; a
+ * later version may list another. Otherwise the verdict is the number of the pattern that is told, 1
+ * to 6, and the sheet lists its operations.
  *
  * The first test that fails decides, in this order:
  *

@@ -1,5 +1,5 @@
 /*
- * Sessions for the C tests and the measurements, made without the library.
+ * Sessions for the measurements of stack and instructions, made without the library.
  */
 
 #ifndef SESSIONS_H

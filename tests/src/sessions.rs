@@ -125,7 +125,8 @@ impl Compared {
         );
     }
 
-    /// How the session and its buffer stand.
+    /// How the session and its buffer stand: as the tests' own have it, which every call has
+    /// compared with the library's.
     pub fn state(&self) -> &State {
         &self.expected
     }
@@ -136,7 +137,7 @@ impl Compared {
         self.lent.become_state(&self.expected);
     }
 
-    /// The used bytes of the buffer.
+    /// The used bytes of the buffer, in the same way.
     pub fn held(&self) -> &[u8] {
         self.expected.log().expect("used bytes of the buffer")
     }

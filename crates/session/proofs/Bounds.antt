@@ -16,7 +16,8 @@ use Rattle.reader.specs.Feed.{isOneRecord, decodedFault, faultBehind, extended}
 use Rattle.reader.specs.declared.record.Record.{Record}
 use Rattle.reader.specs.declared.record.Decoded.{Decoded}
 use Rattle.reader.specs.declared.record.Decoded.the-variants.{Found, Malformed}
-use Rattle.reader.specs.declared.log.Extension.the-variants.{Full, Faulty, Fits}
+use Rattle.reader.specs.declared.log.Extension.{Extension}
+use Rattle.reader.specs.declared.log.Extension.the-variants.{Unreadable, Full, Faulty, Fits}
 use Rattle.reader.proofs.Bounds.{Known, decode-known}
 use Rattle.reader.proofs.Bytes.{decode-inverts}
 use Rattle.reader.proofs.Records.{event-most}
@@ -77,7 +78,26 @@ feed-within stage used buffer bytes = standing (eqb (stageRefusal openStage stag
     standing true t = held (unrefused-within openStage stage used buffer (eqb-true (stageRefusal openStage stage used buffer) 0 t)) (readPartial (heldLog used buffer)) refl
     standing false t = (omega (arith, eqb-false (stageRefusal openStage stage used buffer) 0 t), omega arith)
 
--- the same, by the answer's case
+-- what an accepted feed returns: as many bytes as it has
+pub accepted-length : (stage used : ℕ) (buffer bytes : List ℕ) {n : ℕ} → feedAnswer stage used buffer bytes ≡ Accepted n → n ≡ length bytes
+unfolding feedAnswer
+accepted-length stage used buffer bytes {n} e = standing (eqb (stageRefusal openStage stage used buffer) 0) e
+  where
+    roomy : (lacks : Bool) → (if lacks then Refused bufferTooShort 0 else Accepted (length bytes)) ≡ Accepted n → n ≡ length bytes
+    roomy true e = let z : _≡_ {A = ℕ} 0 1 = cc in absurd (omega arith)
+    roomy false e = cc
+
+    fits : (x : Extension) → fedAnswer x used buffer bytes ≡ Accepted n → n ≡ length bytes
+    fits Unreadable e = let z : _≡_ {A = ℕ} 0 1 = cc in absurd (omega arith)
+    fits Full e = let z : _≡_ {A = ℕ} 0 1 = cc in absurd (omega arith)
+    fits (Faulty number records) e = let z : _≡_ {A = ℕ} 0 1 = cc in absurd (omega arith)
+    fits (Fits records) e = roomy (ltb (length buffer) (used + length bytes)) e
+
+    standing : (t : Bool) → (if not t then Refused (stageRefusal openStage stage used buffer) 0 else fedAnswer (extended (readPartial (heldLog used buffer)) bytes) used buffer bytes) ≡ Accepted n → n ≡ length bytes
+    standing true e = fits (extended (readPartial (heldLog used buffer)) bytes) e
+    standing false e = let z : _≡_ {A = ℕ} 0 1 = cc in absurd (omega arith)
+
+-- the same bounds, by the answer's case
 pub accepted-small : (stage used : ℕ) (buffer bytes : List ℕ) {n : ℕ} → Accepted n ≡ feedAnswer stage used buffer bytes → (n ≤ 12) × (used ≤ maxLength)
 accepted-small stage used buffer bytes {n} e = go (rw (sym e) at (feed-within stage used buffer bytes))
   where

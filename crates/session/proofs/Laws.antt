@@ -1,32 +1,30 @@
 -- The laws of sessions. Document 01, "Sessions" and "Sheet, excerpt, narrowing".
-use Prim.Native.Nat.{ℕ, zero, suc, _+_, _/_, _%_, _≤_, _<_}
+use Prim.Native.Nat.{ℕ, _+_, _≤_}
 use native.Mathlib.Omega.{arith}
 use mathlib.Core.Path.{_≡_, refl, sym, ap, _∙_}
-use mathlib.Core.List.{List, [], _∷_, _++_, map}
+use mathlib.Core.List.{List, [], _++_, map}
 use lib.ListN.{length, take, drop, length-append, length-drop}
 use lib.Seq.{take-append-seam, drop-append-seam, drop-drop}
 use Rattle.reader.specs.Number.{bytesOf}
-use Rattle.reader.specs.Record.{kindOf, lengthOf, valueBytes, encode}
+use Rattle.reader.specs.Record.{encode}
 use Rattle.reader.specs.Log.{headerLength, Reading, readable, readPartial, readLog, encodeAll, encodeLog}
 use Rattle.reader.specs.Readable.{Bytes, sizeOf, sizes}
-use Rattle.reader.specs.declared.record.Removed.the-variants.{Value, Empty}
-use Rattle.reader.specs.declared.record.Event.{Event}
-use Rattle.reader.specs.declared.record.Event.the-variants.{CallAdd, CallRemove, ReturnAdd, ReturnRemove}
 use Rattle.reader.specs.declared.record.Record.{Record}
-use Rattle.reader.proofs.Records.{event-most}
-use Rattle.reader.proofs.Laws.{partial-log, written-log, encode-length}
+use Rattle.reader.proofs.Laws.{partial-log, written-log}
 use Rattle.judge.specs.Judge.{sheetBytes, Judges}
 use Rattle.judge.specs.declared.judge.Verdict.{Verdict}
 use Rattle.judge.specs.declared.judge.Verdict.the-variants.{Order, Pattern}
 use Rattle.judge.proofs.Laws.{judged-determined}
 use Rattle.projection.specs.Outcome.{excerptAnswer, excerptLeaves}
 use Rattle.projection.specs.declared.write.Projected.the-variants.{Written}
+use Rattle.projection.proofs.Sizes.{log-length}
 use Rattle.archive.specs.Archive.{Archive, with-order, with-pattern}
 use Rattle.archive.proofs.Laws.{archive-one}
 use Rattle.session.specs.Session.{openStage, closedStage, heldLog, sessionReading, emptyLog, beginAnswer}
 use Rattle.session.specs.Course.{Lent, begun, Closes, Since, just-begun, logOf, Standing, is-open, is-closed, HoldsFed, afterFeeds, answersTo}
 use Rattle.session.specs.declared.answer.Answer.the-variants.{Accepted}
 use Rattle.session.proofs.Refusing.{open-reading, closed-reading}
+use Rattle.session.proofs.Bytes.{record-bytes}
 use Rattle.session.proofs.Holding.{Holding}
 use Rattle.session.proofs.Feeding.{begun-holds, Stands, open-with, closed-with, rest, Grown, since-grown, records-taken, all-accepted, log-of-records}
 
@@ -34,16 +32,6 @@ use Rattle.session.proofs.Feeding.{begun-holds, Stands, open-with, clos
 pub empty-log : emptyLog ≡ encodeLog []
 unfolding bytesOf encodeAll
 empty-log = refl
-
--- the bytes of records, and of a log of them
-length-all : (records : List Record) → length (encodeAll records) ≡ sizes records
-unfolding encodeAll sizes
-length-all [] = refl
-length-all (r ∷ records) = rw (length-append (encode r) (encodeAll records), encode-length r, length-all records) refl
-
-length-log : (records : List Record) → length (encodeLog records) ≡ headerLength + sizes records
-unfolding bytesOf
-length-log records = omega (arith, length-all records)
 
 -- a buffer that holds a log, with other bytes behind it
 over-log : {used : ℕ} {buffer log behind : List ℕ} → used ≡ length log → buffer ≡ log ++ behind → (used ≤ length buffer) × (heldLog used buffer ≡ log) × (drop used buffer ≡ behind)
@@ -61,7 +49,7 @@ holds-fed {buffer} {fed} {s} since = go (grown .stands)
     log = ap logOf (grown .accepted-are) ∙ log-of-records (grown .fed)
 
     behind-is : rest buffer (grown .fed) ≡ drop (length (encodeLog (grown .fed))) buffer
-    behind-is = drop-drop (sizes (grown .fed)) headerLength buffer ∙ ap (λ n. drop n buffer) (sym (length-log (grown .fed)))
+    behind-is = drop-drop (sizes (grown .fed)) headerLength buffer ∙ ap (λ n. drop n buffer) (sym (log-length (grown .fed)))
 
     holds : {stage : ℕ} → Holding (record { stage = stage; used = s .used; buffer = s .buffer }) (grown .fed) (rest buffer (grown .fed)) → Standing s (logOf fed) → HoldsFed buffer fed s
     holds h standing =
@@ -120,45 +108,6 @@ module _ {buffer : List ℕ} {fed : List (List ℕ)} {s : Lent} (since : Since b
         let (sheets, excerpts) = archive-one (with-pattern (rw reading-is at writes) out (sym answer ∙ wrote)) archive in
         (sheets, ap (take n) leaves ∙ excerpts)
 
--- what is written of a record is bytes
-bytes-more : (x : ℕ) (xs : List ℕ) → x < 256 → Bytes xs → Bytes (x ∷ xs)
-bytes-more x xs small b zero = small
-bytes-more x xs small b (suc i) = b i
-
-bytes-join : (xs ys : List ℕ) → Bytes xs → Bytes ys → Bytes (xs ++ ys)
-bytes-join [] ys b c = c
-bytes-join (x ∷ xs) ys b c = bytes-more x (xs ++ ys) (b 0) (bytes-join xs ys (λ i. b (suc i)) c)
-
-bytes-none : Bytes []
-bytes-none i = omega arith
-
-number-bytes : (width x : ℕ) → Bytes (bytesOf width x)
-unfolding bytesOf
-number-bytes zero x = bytes-none
-number-bytes (suc width) x = bytes-join (bytesOf width (x / 256)) (x % 256 ∷ []) (number-bytes width (x / 256)) (bytes-more (x % 256) [] (omega arith) bytes-none)
-
-pub record-bytes : (r : Record) → Bytes (encode r)
-unfolding encode
-record-bytes r =
-    let fields : List ℕ = bytesOf 2 (r .client) ++ bytesOf 4 (r .tick) in
-    bytes-more (lengthOf (kindOf (r .event))) (kindOf (r .event) ∷ fields ++ valueBytes (r .event)) (omega (arith, event-most (r .event)))
-    (bytes-more (kindOf (r .event)) (fields ++ valueBytes (r .event)) (kind (r .event))
-    (bytes-join fields (valueBytes (r .event)) (bytes-join (bytesOf 2 (r .client)) (bytesOf 4 (r .tick)) (number-bytes 2 (r .client)) (number-bytes 4 (r .tick))) (value (r .event))))
-  where
-    kind : (e : Event) → kindOf e < 256
-    kind (CallAdd v) = omega arith
-    kind CallRemove = omega arith
-    kind ReturnAdd = omega arith
-    kind (ReturnRemove (Value v)) = omega arith
-    kind (ReturnRemove Empty) = omega arith
-
-    value : (e : Event) → Bytes (valueBytes e)
-    value (CallAdd v) = number-bytes 4 v
-    value CallRemove = bytes-none
-    value ReturnAdd = bytes-none
-    value (ReturnRemove (Value v)) = number-bytes 4 v
-    value (ReturnRemove Empty) = bytes-none
-
 -- "For a log that is readable, or is so but for 10, and buffers long enough, feeding its records and closing answers as judging the log does."
 module _ (log buffer : List ℕ) (bytes : Bytes log) (records : List Record) (reads : readPartial log ≡ readable records) (room : length log ≤ length buffer) where
   -- the session behind begin and a feed for each record of the log
@@ -173,7 +122,7 @@ module _ (log buffer : List ℕ) (bytes : Bytes log) (records : List Record) (re
   feeds-are = log-of-records records ∙ same-log
 
   long : headerLength + sizes records ≡ length log
-  long = sym (length-log records) ∙ ap length same-log
+  long = sym (log-length records) ∙ ap length same-log
 
   begins : (beginAnswer buffer ≡ Accepted headerLength) × Holding (begun buffer) [] (drop headerLength buffer)
   begins = begun-holds buffer (omega (arith, long))

@@ -45,6 +45,7 @@ sessionUnfit = 25
 abbrev pub heldLog : ℕ → List ℕ → List ℕ
 heldLog used buffer = take used buffer
 
+-- whether a check finds a log readable
 abbrev pub isReadable : Checked → Bool
 isReadable (check.Readable records operations) = true
 isReadable (check.Refused number index) = false
@@ -57,7 +58,7 @@ sessionFits stage used buffer =
     if eqb stage closedStage then isReadable (checked (readLog (heldLog used buffer))) else
     false
 
--- 25, then 20 or 22, of a session that has to be in a stage, open for feed and close and closed for sheet and excerpt; 0 for none of them
+-- 25, then 20 or 22, of a session that has to be in the wanted stage, open for feed and close and closed for sheet and excerpt; 0 for none of them
 unfoldable pub stageRefusal : ℕ → ℕ → ℕ → List ℕ → ℕ
 stageRefusal wanted stage used buffer =
     if not (sessionFits stage used buffer) then sessionUnfit else

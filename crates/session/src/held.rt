@@ -1,6 +1,5 @@
 // The log that a session holds, and what is asked of it: close and sheet judge it, excerpt writes its excerpt.
 ghost use mathlib.Core.Path.{_≡_};
-ghost use Rattle.reader.specs.declared.log.Checked.{Checked};
 ghost use Rattle.judge.specs.Judge.{Judges};
 ghost use Rattle.projection.specs.Outcome.{excerptAnswer, excerptLeaves};
 ghost use Rattle.session.specs.Session.{closedStage, isReadable, sessionFits, stageRefusal, sessionReading, stageClosed};
@@ -49,7 +48,7 @@ fn fits(stage: u32, used: u32, buf: &[u8]) -> bool
     }
 }
 
-// Refusals 25, and 20 or 22: why nothing can be asked of a session that has to be in a stage, 0 for no reason.
+// Refusals 25, and 20 or 22: why nothing can be asked of a session that has to be in the wanted stage, 0 for no reason.
 pub fn stage_refusal(wanted: u32, stage: u32, used: u32, buf: &[u8]) -> u32
     ensures { λ r. ⌜ r ≡ stageRefusal wanted stage used (now (buf .entry)) ⌝ }
 {
@@ -65,7 +64,7 @@ pub fn stage_refusal(wanted: u32, stage: u32, used: u32, buf: &[u8]) -> u32
     SESSION_OPEN
 }
 
-// Judges the log that a session holds, which has to be in a stage: open for close, and closed for sheet.
+// Judges the log that a session holds. The session has to be in the wanted stage, open for close and closed for sheet.
 pub fn judge_held(wanted: u32, stage: u32, used: u32, buf: &[u8], sheet: &mut [u8]) -> Verdict
     ensures { λ v. ⌜ Judges (sessionReading wanted stage used (now (buf .entry))) (now (sheet .entry)) v (now (sheet .exit)) ⌝ }
 {

@@ -16,14 +16,16 @@ use Rattle.reader.specs.declared.record.Record.{Record}
 use Rattle.judge.specs.Judge as Judge
 use Rattle.judge.specs.Judge.{sheetBytes, Judges}
 use Rattle.judge.specs.declared.judge.Verdict.{Verdict}
+use Rattle.judge.specs.declared.judge.Verdict.the-variants as judge
 use Rattle.projection.specs.Outcome.{excerptAnswer, excerptLeaves}
 use Rattle.projection.specs.declared.write.Projected.{Projected}
 use Rattle.projection.specs.declared.write.Projected.the-variants as projection
 use Rattle.session.specs.Session.{openStage, closedStage, heldLog, stageRefusal, sessionReading, emptyLog, feedAnswer, fedBuffer, stageBegun, usedBegun, usedFed, stageClosed}
-use Rattle.session.specs.Course.{Lent, begun, answerTo, afterFeed, afterClose, Closes, Since, then-closed, afterFeeds, answersTo, logOf}
+use Rattle.session.specs.Course.{Lent, begun, answerTo, afterFeed, afterClose, ifAccepted, Closes, Since, just-begun, then-fed, then-closed, afterFeeds, answersTo, logOf}
 use Rattle.session.specs.declared.answer.Answer.{Answer}
 use Rattle.session.specs.declared.answer.Answer.the-variants as session
-use Rattle.session.proofs.Bounds.{Within, feed-within}
+use Rattle.session.proofs.Feeding.{begun-holds}
+use Rattle.session.proofs.Bounds.{accepted-length, Within, feed-within}
 use Rattle.session.proofs.Laws.{feeds-are, begin-accepted, feeds-accepted, fed-since, feeding-is-judging, sheet-is-judging, excerpt-is}
 use Rattle.yauponroof.specs.Answer.{judgeAnswer, JudgeAnswers, projectionAnswer}
 use Rattle.yauponroof.specs.Session.{writingAnswer, BeginAnswers, FeedAnswers, CloseAnswers, SheetAnswers, ExcerptAnswers, FeedsAnswer, none, more}
@@ -43,23 +45,29 @@ begin-says {stage} {used} {stage'} {used'} {answer} {buffer} {buffer'} a = go (l
     go true e s u b = refuses (rw e (refusal-turned-down bufferTooShort 0 (omega arith) (omega arith))) s u b
     go false e s u b = begins (rw e (small-accepted 3 (omega arith))) s u b
 
--- What the number that feed answers says: a record of so many bytes was put behind the used ones and is counted, or all is as it was.
+-- What the number that feed answers says: the record was put behind the used bytes and is counted, or the feed was refused, and all is as it was.
 pub data FeedSays (stage used : ℕ) (buffer bytes : List ℕ) (stage' used' : ℕ) (buffer' : List ℕ) (answer : ℕ) : Type 0 where
-  takes : {n : ℕ} → Accepted answer n → stage' ≡ stage → used' ≡ used + n → buffer' ≡ put used bytes (withCount (countField buffer + 1) buffer) → FeedSays stage used buffer bytes stage' used' buffer' answer
-  refuses : {number index : ℕ} → TurnedDown answer number index → stage' ≡ stage → used' ≡ used → buffer' ≡ buffer → FeedSays stage used buffer bytes stage' used' buffer' answer
+  takes : feedAnswer stage used buffer bytes ≡ session.Accepted (length bytes) → Accepted answer (length bytes) → stage' ≡ stage → used' ≡ used + length bytes
+      → buffer' ≡ put used bytes (withCount (countField buffer + 1) buffer) → FeedSays stage used buffer bytes stage' used' buffer' answer
+  refuses : {number index : ℕ} → feedAnswer stage used buffer bytes ≡ session.Refused number index → TurnedDown answer number index → stage' ≡ stage → used' ≡ used → buffer' ≡ buffer
+      → FeedSays stage used buffer bytes stage' used' buffer' answer
 
 pub feed-says : {stage used stage' used' answer : ℕ} {buffer bytes buffer' : List ℕ} → FeedAnswers stage used buffer bytes stage' used' buffer' answer → FeedSays stage used buffer bytes stage' used' buffer' answer
-feed-says {stage} {used} {stage'} {used'} {answer} {buffer} {bytes} {buffer'} a = go (feedAnswer stage used buffer bytes) (feed-within stage used buffer bytes) (a .answers) (a .used-is) (a .leaves)
+feed-says {stage} {used} {stage'} {used'} {answer} {buffer} {bytes} {buffer'} a = go (feedAnswer stage used buffer bytes) refl (feed-within stage used buffer bytes) (a .answers) (a .used-is) (a .leaves)
   where
-    go : (given : Answer) → Within used given → answer ≡ writingAnswer given → used' ≡ usedFed used given → buffer' ≡ fedBuffer given used buffer bytes → FeedSays stage used buffer bytes stage' used' buffer' answer
-    go (session.Accepted n) small e u b = takes {n = n} (rw e (small-accepted n (omega (arith, small .0)))) (a .stage-is) u b
-    go (session.Refused number index) small e u b = refuses {number = number} {index = index} (rw e (refusal-turned-down number index (small .0) (omega (arith, small .1)))) (a .stage-is) u b
+    go : (given : Answer) → feedAnswer stage used buffer bytes ≡ given → Within used given → answer ≡ writingAnswer given → used' ≡ usedFed used given → buffer' ≡ fedBuffer given used buffer bytes
+        → FeedSays stage used buffer bytes stage' used' buffer' answer
+    go (session.Accepted n) is small e u b =
+        let all : n ≡ length bytes = accepted-length stage used buffer bytes is in
+        takes (is ∙ ap session.Accepted all) (rw (e ∙ all) (small-accepted (length bytes) (omega (arith, small .0)))) (a .stage-is) (u ∙ ap (λ n. used + n) all) b
+    go (session.Refused number index) is small e u b = refuses {number = number} {index = index} is (rw e (refusal-turned-down number index (small .0) (omega (arith, small .1)))) (a .stage-is) u b
 
 -- What the number that close answers says: the sheet was written and the session is closed, or all is as it was.
 pub data CloseSays (stage used : ℕ) (buffer sheet : List ℕ) (stage' used' : ℕ) (sheet' : List ℕ) (answer : ℕ) : Type 0 where
   closes : {verdict : Verdict} → Judge.Accepted verdict → Judges (sessionReading openStage stage used buffer) sheet verdict sheet' → Accepted answer (sheetBytes verdict) → stage' ≡ closedStage → used' ≡ used
       → CloseSays stage used buffer sheet stage' used' sheet' answer
-  refuses : {number index : ℕ} → TurnedDown answer number index → stage' ≡ stage → used' ≡ used → sheet' ≡ sheet → CloseSays stage used buffer sheet stage' used' sheet' answer
+  refuses : {number index : ℕ} → Judges (sessionReading openStage stage used buffer) sheet (judge.Refused number index) sheet' → TurnedDown answer number index → stage' ≡ stage → used' ≡ used → sheet' ≡ sheet
+      → CloseSays stage used buffer sheet stage' used' sheet' answer
 
 pub close-says : {stage used stage' used' answer : ℕ} {buffer sheet sheet' : List ℕ} → CloseAnswers stage used buffer sheet stage' used' sheet' answer → CloseSays stage used buffer sheet stage' used' sheet' answer
 close-says {stage} {used} {stage'} {used'} {answer} {buffer} {sheet} {sheet'} a = go (judge-says (session-known openStage stage used buffer) (a .judged))
@@ -74,12 +82,13 @@ close-says {stage} {used} {stage'} {used'} {answer} {buffer} {sheet} {sheet'} a 
 
     go : JudgeSays (sessionReading openStage stage used buffer) sheet answer sheet' → CloseSays stage used buffer sheet stage' used' sheet' answer
     go (wrote accepted j e) = closes accepted j e (stage-by j ∙ closed accepted) (a .used-is)
-    go (turned-down j e same) = refuses e (stage-by j) (a .used-is) same
+    go (turned-down j e same) = refuses j e (stage-by j) (a .used-is) same
 
--- What the number that the excerpt of a session answers says: so many bytes were written, or the buffer is as it was.
+-- What the number that the excerpt of a session answers says: so many bytes were written, or the call was refused and the buffer is as it was.
 pub data ExcerptSays (stage used : ℕ) (buffer out : List ℕ) (answer : ℕ) (out' : List ℕ) : Type 0 where
-  writes : {n : ℕ} → excerptAnswer (sessionReading closedStage stage used buffer) out ≡ projection.Written n → Accepted answer n → ExcerptSays stage used buffer out answer out'
-  refuses : {number index : ℕ} → TurnedDown answer number index → out' ≡ out → ExcerptSays stage used buffer out answer out'
+  writes : {n : ℕ} → excerptAnswer (sessionReading closedStage stage used buffer) out ≡ projection.Written n → Accepted answer n → out' ≡ excerptLeaves (sessionReading closedStage stage used buffer) out
+      → ExcerptSays stage used buffer out answer out'
+  refuses : {number index : ℕ} → excerptAnswer (sessionReading closedStage stage used buffer) out ≡ projection.Refused number index → TurnedDown answer number index → out' ≡ out → ExcerptSays stage used buffer out answer out'
 
 -- the bytes of the log that is held are those of the buffer
 taken-bytes : (n : ℕ) (buffer : List ℕ) → Bytes buffer → Bytes (take n buffer)
@@ -103,8 +112,8 @@ excerpt-says {stage} {used} {answer} {buffer} {out} {out'} bytes a = go (excerpt
     reading = sessionReading closedStage stage used buffer
 
     go : (given : Projected) → excerptAnswer (sessionReading closedStage stage used buffer) out ≡ given → Fine given → answer ≡ projectionAnswer given → ExcerptSays stage used buffer out answer out'
-    go (projection.Written n) e fine is = writes {n = n} e (rw is (written-accepted fine))
-    go (projection.Refused number index) e fine is = refuses {number = number} {index = index} (rw is (projection-turned-down fine)) (a .leaves ∙ excerpt-untouched (sessionReading closedStage stage used buffer) out e)
+    go (projection.Written n) e fine is = writes {n = n} e (rw is (written-accepted fine)) (a .leaves)
+    go (projection.Refused number index) e fine is = refuses {number = number} {index = index} e (rw is (projection-turned-down fine)) (a .leaves ∙ excerpt-untouched (sessionReading closedStage stage used buffer) out e)
 
 -- "For each entry the result, the session and every lent byte follow from the input, refusals too": begin, feed and excerpt are equations; closing and
 -- the sheet have one outcome.
@@ -121,6 +130,25 @@ sheet-one stage used buffer a b = answers-one (session-known closedStage stage u
 -- calls of feed are feeds, one after the other
 abbrev lent : ℕ → ℕ → List ℕ → Lent
 lent stage used buffer = record { stage = stage; used = used; buffer = buffer }
+
+-- Whatever calls of begin, feed and close a session goes through, in any order, the laws of the crate session hold of it: each call is a step of `Since`.
+pub begin-since : {stage used stage' used' answer : ℕ} {buffer buffer' : List ℕ} → headerLength ≤ length buffer → BeginAnswers stage used buffer stage' used' buffer' answer → Since buffer [] (lent stage' used' buffer')
+begin-since {stage} {used} {stage'} {used'} {buffer = buffer} {buffer'} room a =
+    let accepted = begun-holds buffer room .0 in
+    let same : lent stage' used' buffer' ≡ begun buffer = cc (a .stage-is ∙ ap (stageBegun stage) accepted, a .used-is ∙ ap (usedBegun used) accepted, a .leaves) in
+    rw same (just-begun room)
+
+pub feed-since : {begun-in : List ℕ} {fed : List (List ℕ)} {stage used stage' used' answer : ℕ} {buffer bytes buffer' : List ℕ} → Since begun-in fed (lent stage used buffer) → Bytes bytes
+    → FeedAnswers stage used buffer bytes stage' used' buffer' answer → Since begun-in (fed ++ ifAccepted (feedAnswer stage used buffer bytes) bytes) (lent stage' used' buffer')
+feed-since {stage = stage} {used} {stage'} {used'} {buffer = buffer} {bytes} {buffer'} since b a =
+    let same : lent stage' used' buffer' ≡ afterFeed (lent stage used buffer) bytes = cc (a .stage-is, a .used-is, a .leaves) in
+    rw same (then-fed since bytes b)
+
+pub close-since : {begun-in : List ℕ} {fed : List (List ℕ)} {stage used stage' used' answer : ℕ} {buffer sheet sheet' : List ℕ} → Since begun-in fed (lent stage used buffer)
+    → CloseAnswers stage used buffer sheet stage' used' sheet' answer → Since begun-in fed (lent stage' used' buffer)
+close-since {stage = stage} {used} {stage'} {used'} {buffer = buffer} since a =
+    let same : lent stage' used' buffer ≡ afterClose (lent stage used buffer) (a .judged .verdict) = cc (a .stage-is, a .used-is) in
+    rw same (then-closed since (a .judged .verdict) (record { judges = a .judged .judges }))
 
 feeds-follow : {stage used stage' used' : ℕ} {buffer buffer' answers : List ℕ} {feeds : List (List ℕ)} → FeedsAnswer stage used buffer feeds answers stage' used' buffer'
     → (lent stage' used' buffer' ≡ afterFeeds (lent stage used buffer) feeds) × (answers ≡ map writingAnswer (answersTo (lent stage used buffer) feeds))
@@ -141,47 +169,47 @@ sizes-answered (r ∷ records) = ap (λ xs. sizeOf r ∷ xs) (sizes-answered rec
 -- "For a log that is readable, or is so but for 10, and buffers long enough, feeding its records and closing answers as judging the log does": begin
 -- returns 3, each feed 1 + L, and close the number that judging the log returns, a refusal and its index included, with the same bytes left.
 module _ (log : List ℕ) (bytes : Bytes log) (records : List Record) (reads : readPartial log ≡ readable records) {buffer : List ℕ} (room : length log ≤ length buffer)
-    {stage used stage₀ used₀ began : ℕ} {buffer₀ : List ℕ} (begin : BeginAnswers stage used buffer stage₀ used₀ buffer₀ began)
-    {stage₁ used₁ : ℕ} {buffer₁ answers : List ℕ} (feeds : FeedsAnswer stage₀ used₀ buffer₀ (map encode records) answers stage₁ used₁ buffer₁)
-    {sheet left : List ℕ} {stage₂ used₂ answer : ℕ} (close : CloseAnswers stage₁ used₁ buffer₁ sheet stage₂ used₂ left answer) where
+    {stage used stage₀ used₀ began : ℕ} {buffer₀ : List ℕ} (begin : BeginAnswers stage used buffer stage₀ used₀ buffer₀ began) where
   begins-as : lent stage₀ used₀ buffer₀ ≡ begun buffer
   begins-as =
       let accepted = begin-accepted log buffer bytes records reads room in
       cc (begin .stage-is ∙ ap (stageBegun stage) accepted, begin .used-is ∙ ap (usedBegun used) accepted, begin .leaves)
 
-  fed-as : lent stage₁ used₁ buffer₁ ≡ afterFeeds (begun buffer) (map encode records)
-  fed-as = feeds-follow feeds .0 ∙ ap (λ s. afterFeeds s (map encode records)) begins-as
-
   pub begin-returns : began ≡ headerLength
   begin-returns = begin .answers ∙ ap writingAnswer (begin-accepted log buffer bytes records reads room)
 
-  pub feeds-return : answers ≡ map sizeOf records
-  feeds-return = feeds-follow feeds .1 ∙ ap (λ s. map writingAnswer (answersTo s (map encode records))) begins-as ∙ ap (map writingAnswer) (feeds-accepted log buffer bytes records reads room) ∙ sizes-answered records
+  module _ {stage₁ used₁ : ℕ} {buffer₁ answers : List ℕ} (feeds : FeedsAnswer stage₀ used₀ buffer₀ (map encode records) answers stage₁ used₁ buffer₁) where
+    fed-as : lent stage₁ used₁ buffer₁ ≡ afterFeeds (begun buffer) (map encode records)
+    fed-as = feeds-follow feeds .0 ∙ ap (λ s. afterFeeds s (map encode records)) begins-as
 
-  closes-as : Closes (afterFeeds (begun buffer) (map encode records)) sheet (close .judged .verdict) left
-  closes-as = rw (← fed-as) (record { judges = close .judged .judges })
+    pub feeds-return : answers ≡ map sizeOf records
+    feeds-return = feeds-follow feeds .1 ∙ ap (λ s. map writingAnswer (answersTo s (map encode records))) begins-as ∙ ap (map writingAnswer) (feeds-accepted log buffer bytes records reads room) ∙ sizes-answered records
 
-  pub close-returns : {answer' : ℕ} {left' : List ℕ} → JudgeAnswers (readLog log) sheet answer' left' → (answer ≡ answer') × (left ≡ left')
-  close-returns judged =
-      let (same, sheets) = feeding-is-judging log buffer bytes records reads room closes-as (judged .judges) in
-      (close .judged .answers ∙ ap judgeAnswer same ∙ sym (judged .answers), sheets)
+    module _ {sheet left : List ℕ} {stage₂ used₂ answer : ℕ} (close : CloseAnswers stage₁ used₁ buffer₁ sheet stage₂ used₂ left answer) where
+      closes-as : Closes (afterFeeds (begun buffer) (map encode records)) sheet (close .judged .verdict) left
+      closes-as = rw (← fed-as) (record { judges = close .judged .judges })
 
-  -- "a session closed on that log gives the same bytes": the sheet and the excerpt of the session, where it was closed, are those of the log
-  module _ (closed : stage₂ ≡ closedStage) where
-    closed-as : lent stage₂ used₂ buffer₁ ≡ afterClose (afterFeeds (begun buffer) (map encode records)) (close .judged .verdict)
-    closed-as = rw (← fed-as) (cc (close .stage-is, close .used-is))
+      pub close-returns : {answer' : ℕ} {left' : List ℕ} → JudgeAnswers (readLog log) sheet answer' left' → (answer ≡ answer') × (left ≡ left')
+      close-returns judged =
+          let (same, sheets) = feeding-is-judging log buffer bytes records reads room closes-as (judged .judges) in
+          (close .judged .answers ∙ ap judgeAnswer same ∙ sym (judged .answers), sheets)
 
-    since : Since buffer (map encode records) (lent stage₂ used₂ buffer₁)
-    since = rw closed-as (then-closed (fed-since log buffer bytes records reads room) (close .judged .verdict) closes-as)
+      -- "a session closed on that log gives the same bytes": the sheet and the excerpt of the session, where it was closed, are those of the log
+      module _ (closed : stage₂ ≡ closedStage) where
+        closed-as : lent stage₂ used₂ buffer₁ ≡ afterClose (afterFeeds (begun buffer) (map encode records)) (close .judged .verdict)
+        closed-as = rw (← fed-as) (cc (close .stage-is, close .used-is))
 
-    pub sheet-returns : {sheet' left' left'' : List ℕ} {answer' answer'' : ℕ} → SheetAnswers stage₂ used₂ buffer₁ sheet' answer' left' → JudgeAnswers (readLog log) sheet' answer'' left'' → (answer' ≡ answer'') × (left' ≡ left'')
-    sheet-returns {sheet'} {left'' = left''} again judged =
-        let judges : Judges (readLog (logOf (map encode records))) sheet' (judged .verdict) left'' = rw (feeds-are log buffer bytes records reads room) (judged .judges) in
-        let (same, sheets) = sheet-is-judging since closed (again .judges) judges in
-        (again .answers ∙ ap judgeAnswer same ∙ sym (judged .answers), sheets)
+        since : Since buffer (map encode records) (lent stage₂ used₂ buffer₁)
+        since = rw closed-as (then-closed (fed-since log buffer bytes records reads room) (close .judged .verdict) closes-as)
 
-    pub excerpt-returns : {out out' : List ℕ} {answer' : ℕ} → ExcerptAnswers stage₂ used₂ buffer₁ out answer' out' → (answer' ≡ projectionAnswer (excerptAnswer (readLog log) out)) × (out' ≡ excerptLeaves (readLog log) out)
-    excerpt-returns {out} excerpt =
-        let (answers, leaves) = excerpt-is since closed out in
-        let same = feeds-are log buffer bytes records reads room in
-        (excerpt .answers ∙ ap projectionAnswer (answers ∙ ap (λ l. excerptAnswer (readLog l) out) same), excerpt .leaves ∙ leaves ∙ ap (λ l. excerptLeaves (readLog l) out) same)
+        pub sheet-returns : {sheet' left' left'' : List ℕ} {answer' answer'' : ℕ} → SheetAnswers stage₂ used₂ buffer₁ sheet' answer' left' → JudgeAnswers (readLog log) sheet' answer'' left'' → (answer' ≡ answer'') × (left' ≡ left'')
+        sheet-returns {sheet'} {left'' = left''} again judged =
+            let judges : Judges (readLog (logOf (map encode records))) sheet' (judged .verdict) left'' = rw (feeds-are log buffer bytes records reads room) (judged .judges) in
+            let (same, sheets) = sheet-is-judging since closed (again .judges) judges in
+            (again .answers ∙ ap judgeAnswer same ∙ sym (judged .answers), sheets)
+
+        pub excerpt-returns : {out out' : List ℕ} {answer' : ℕ} → ExcerptAnswers stage₂ used₂ buffer₁ out answer' out' → (answer' ≡ projectionAnswer (excerptAnswer (readLog log) out)) × (out' ≡ excerptLeaves (readLog log) out)
+        excerpt-returns {out} excerpt =
+            let (answers, leaves) = excerpt-is since closed out in
+            let same = feeds-are log buffer bytes records reads room in
+            (excerpt .answers ∙ ap projectionAnswer (answers ∙ ap (λ l. excerptAnswer (readLog l) out) same), excerpt .leaves ∙ leaves ∙ ap (λ l. excerptLeaves (readLog l) out) same)

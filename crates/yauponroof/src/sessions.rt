@@ -21,6 +21,7 @@ pub struct Turn {
     pub answer: u64,
 }
 
+// The work of `yr_begin`, on numbers and slices.
 fn begin_turn(stage: u32, used: u32, buf: &mut [u8]) -> Turn
     ensures { λ t. ⌜ BeginAnswers stage used (now (buf .entry)) (t .stage) (t .used) (now (buf .exit)) (t .answer) ⌝ }
 {
@@ -38,6 +39,7 @@ fn begin_turn(stage: u32, used: u32, buf: &mut [u8]) -> Turn
     }
 }
 
+// The work of `yr_feed`.
 fn feed_turn(stage: u32, used: u32, buf: &mut [u8], bytes: &[u8]) -> Turn
     ensures { λ t. ⌜ FeedAnswers stage used (now (buf .entry)) (now (bytes .entry)) (t .stage) (t .used) (now (buf .exit)) (t .answer) ⌝ }
 {
@@ -55,6 +57,7 @@ fn feed_turn(stage: u32, used: u32, buf: &mut [u8], bytes: &[u8]) -> Turn
     }
 }
 
+// The work of `yr_close`.
 fn close_turn(stage: u32, used: u32, buf: &[u8], sheet: &mut [u8]) -> Turn
     ensures { λ t. ⌜ CloseAnswers stage used (now (buf .entry)) (now (sheet .entry)) (t .stage) (t .used) (now (sheet .exit)) (t .answer) ⌝ }
 {
@@ -66,12 +69,14 @@ fn close_turn(stage: u32, used: u32, buf: &[u8], sheet: &mut [u8]) -> Turn
     }
 }
 
+// The work of `yr_sheet`.
 fn sheet_answer(stage: u32, used: u32, buf: &[u8], sheet: &mut [u8]) -> u64
     ensures { λ r. ⌜ SheetAnswers stage used (now (buf .entry)) (now (sheet .entry)) r (now (sheet .exit)) ⌝ }
 {
     judged(judge_held(CLOSED, stage, used, buf, sheet))
 }
 
+// The work of `yr_session_excerpt`.
 fn excerpt_answer(stage: u32, used: u32, buf: &[u8], out: &mut [u8]) -> u64
     ensures { λ r. ⌜ ExcerptAnswers stage used (now (buf .entry)) (now (out .entry)) r (now (out .exit)) ⌝ }
 {
