@@ -1,5 +1,5 @@
 /*
- * yauponroof.h - a judge for logs of queue operations, version 0.4.0
+ * yauponroof.h - a judge for logs of queue operations, version 0.5.0
  *
  * A log tells the calls and the returns of operations on one queue, made by any number of clients.
  * yr_check says whether the log is readable and how many operations it has, or which record is at
@@ -114,9 +114,9 @@
 extern "C" {
 #endif
 
-#define YR_VERSION "0.4.0"
+#define YR_VERSION "0.5.0"
 #define YR_VERSION_MAJOR 0
-#define YR_VERSION_MINOR 4
+#define YR_VERSION_MINOR 5
 #define YR_VERSION_PATCH 0
 
 /* The most records that a log may have. */

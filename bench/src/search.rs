@@ -1,0 +1,236 @@
+//! The search of Wing and Gong for a legal order (a linearization), with Lowe's cache. It places one
+//! operation after the other. Next may come any operation that was called before the first return of
+//! one that is not placed; they are tried in the order of their calls. If none of them can come next,
+//! the latest one is taken back. What Lowe added is to remember every configuration, so that none is
+//! entered twice. The search knows a queue only as something that operations are run on.
+
+use std::time::{Duration, Instant};
+
+use yauponroof_tests::history::Operation;
+
+use crate::cache::Cache;
+use crate::call_list::{CallList, Event};
+use crate::placed::Placed;
+use crate::queue::Queue;
+
+/// What a search comes to.
+#[derive(Clone, Debug, PartialEq, Eq)]
+pub enum Outcome {
+    /// A legal order.
+    Order(Vec<u16>),
+    /// There is none.
+    NoOrder,
+    /// The limit was reached.
+    GaveUp,
+}
+
+/// Where a search gives up.
+#[derive(Clone, Copy, Debug, PartialEq, Eq)]
+pub enum Limit {
+    Time(Duration),
+    Configurations(usize),
+}
+
+/// Searches for a legal order of these operations of a readable log.
+pub fn search(operations: &[Operation], limit: Limit) -> Outcome {
+    let start = Instant::now();
+    let mut search = Search::new(operations);
+    let mut at = search.list.first();
+    while search.to_return > 0 {
+        match search.list.event(at) {
+            Event::Call(number) if search.place(number) => {
+                if is_reached(limit, start, search.cache.len()) {
+                    return Outcome::GaveUp;
+                }
+                at = search.list.first();
+            }
+            Event::Call(_) => at = search.list.behind(at),
+            Event::Barrier => match search.take_back() {
+                Some(call) => at = search.list.behind(call),
+                None => return Outcome::NoOrder,
+            },
+        }
+    }
+    Outcome::Order(search.order)
+}
+
+/// Whether a search that has been in so many configurations has to end. The clock is read seldom.
+fn is_reached(limit: Limit, start: Instant, configurations: usize) -> bool {
+    const SELDOM: usize = 1024;
+    match limit {
+        Limit::Time(most) => configurations % SELDOM == 0 && start.elapsed() >= most,
+        Limit::Configurations(most) => configurations >= most,
+    }
+}
+
+/// How a search stands.
+struct Search<'a> {
+    operations: &'a [Operation],
+    /// The calls and returns of the operations that are not placed.
+    list: CallList,
+    /// The operations that are placed, first to last.
+    order: Vec<u16>,
+    placed: Placed,
+    queue: Queue,
+    cache: Cache,
+    /// How many operations have returned and are not placed. Pending adds may be left out.
+    to_return: usize,
+}
+
+impl<'a> Search<'a> {
+    fn new(operations: &'a [Operation]) -> Search<'a> {
+        Search {
+            operations,
+            list: CallList::new(operations),
+            order: Vec::with_capacity(operations.len()),
+            placed: Placed::none_of(operations.len()),
+            queue: Queue::new(operations.len()),
+            cache: Cache::default(),
+            to_return: operations.iter().filter(|o| o.returned.is_some()).count(),
+        }
+    }
+
+    /// Places the operation, if the queue allows it and it leads to a new configuration; whether it
+    /// did.
+    fn place(&mut self, number: u16) -> bool {
+        let operation = &self.operations[usize::from(number)];
+        if !self.queue.run(operation.action) {
+            return false;
+        }
+        self.placed.insert(number);
+        if !self.cache.insert(&self.placed, &self.queue) {
+            self.placed.remove(number);
+            self.queue.take_back(operation.action);
+            return false;
+        }
+        self.list.lift(operation);
+        self.order.push(number);
+        self.to_return -= usize::from(operation.returned.is_some());
+        true
+    }
+
+    /// Takes back the latest operation, if one is placed; the list's entry of its call.
+    fn take_back(&mut self) -> Option<usize> {
+        let number = self.order.pop()?;
+        let operation = &self.operations[usize::from(number)];
+        self.to_return += usize::from(operation.returned.is_some());
+        self.placed.remove(number);
+        self.queue.take_back(operation.action);
+        Some(self.list.put_back(operation))
+    }
+}
+
+#[cfg(test)]
+mod tests {
+    use std::time::Duration;
+
+    use yauponroof_tests::changed_logs::near_outcomes_exchanged;
+    use yauponroof_tests::enumerate::{every_log, random_log, random_log_of_paired_operations};
+    use yauponroof_tests::history::operations;
+    use yauponroof_tests::linearization::is_linearization;
+    use yauponroof_tests::random::Random;
+    use yauponroof_tests::reader::Record;
+    use yauponroof_tests::samples::calls_then_returns;
+    use yauponroof_tests::search::has_linearization;
+    use yauponroof_tests::simulation::{simulate_run, Clients};
+
+    use super::{search, Limit, Outcome};
+
+    const NO_LIMIT: Limit = Limit::Configurations(usize::MAX);
+
+    /// Counts the logs with an order and those without.
+    #[derive(Default)]
+    struct Seen {
+        orders: usize,
+        no_orders: usize,
+    }
+
+    impl Seen {
+        /// Holds the search against that of the tests.
+        fn compare(&mut self, records: &[Record]) {
+            let operations = operations(records);
+            let has_order = has_linearization(&operations);
+            match search(&operations, NO_LIMIT) {
+                Outcome::Order(order) => {
+                    assert!(
+                        has_order && is_linearization(&operations, &order),
+                        "{records:?}"
+                    );
+                    self.orders += 1;
+                }
+                Outcome::NoOrder => {
+                    assert!(!has_order, "{records:?}");
+                    self.no_orders += 1;
+                }
+                Outcome::GaveUp => panic!("there was no limit"),
+            }
+        }
+
+        fn assert_at_least(&self, orders: usize, no_orders: usize) {
+            assert!(self.orders >= orders, "{} orders", self.orders);
+            assert!(self.no_orders >= no_orders, "{} without", self.no_orders);
+        }
+    }
+
+    #[test]
+    fn every_short_log() {
+        let mut seen = Seen::default();
+        every_log(6, &mut |records| seen.compare(records));
+        assert_eq!((seen.orders, seen.no_orders), (2093, 4591));
+    }
+
+    #[test]
+    fn random_logs() {
+        let mut random = Random::new(301);
+        let mut seen = Seen::default();
+        for _ in 0..20_000 {
+            let least = 2 + random.below(16);
+            seen.compare(&random_log(least, &mut random));
+        }
+        seen.assert_at_least(2000, 2000);
+    }
+
+    #[test]
+    fn random_logs_of_paired_operations() {
+        let mut random = Random::new(302);
+        let mut seen = Seen::default();
+        for _ in 0..5000 {
+            let count = 1 + random.below(11);
+            seen.compare(&random_log_of_paired_operations(count, &mut random));
+        }
+        seen.assert_at_least(1000, 1000);
+    }
+
+    /// Runs of a correct queue of which some adds stay pending, and the same with two outcomes
+    /// exchanged.
+    #[test]
+    fn simulated_runs_with_pending_adds() {
+        let mut random = Random::new(303);
+        let mut seen = Seen::default();
+        for round in 0..1000 {
+            let workers = 1 + random.below(5) as u16;
+            let run = simulate_run(workers, Clients::Reused, 24, random.next_u64());
+            let pending = run.with_pending_adds(10 * (round % 4), &mut random);
+            seen.compare(&pending.records);
+            if let Some(changed) = near_outcomes_exchanged(&pending, &mut random) {
+                seen.compare(&changed);
+            }
+        }
+        seen.assert_at_least(1000, 100);
+    }
+
+    #[test]
+    fn it_gives_up_at_its_limit() {
+        let operations = operations(&calls_then_returns(1024));
+        assert!(matches!(search(&operations, NO_LIMIT), Outcome::Order(_)));
+        let limit = Limit::Configurations(511);
+        assert_eq!(search(&operations, limit), Outcome::GaveUp);
+    }
+
+    #[test]
+    fn it_gives_up_when_its_time_is_up() {
+        let run = simulate_run(8, Clients::Reused, 1024, 304);
+        let limit = Limit::Time(Duration::ZERO);
+        assert_eq!(search(&operations(&run.records), limit), Outcome::GaveUp);
+    }
+}

@@ -1,0 +1,43 @@
+#include "keep.h"
+
+#include <errno.h>
+#include <limits.h>
+#include <stdio.h>
+#include <string.h>
+#include <sys/stat.h>
+
+#include "trouble.h"
+
+int make_folder(const char *folder)
+{
+    if (mkdir(folder, 0777) != 0 && errno != EEXIST)
+        return trouble("%s: %s", folder, strerror(errno));
+    return 1;
+}
+
+static int write_file(const char *folder, const char *name, const char *ending,
+                      const uint8_t *bytes, size_t length)
+{
+    char path[PATH_MAX];
+    int size = snprintf(path, sizeof path, "%s/%s%s", folder, name, ending);
+    if (size < 0 || (size_t)size >= sizeof path)
+        return trouble("the name of the folder is too long");
+    FILE *file = fopen(path, "wb");
+    if (file == NULL)
+        return trouble("%s: %s", path, strerror(errno));
+    size_t written = fwrite(bytes, 1, length, file);
+    if (fclose(file) != 0 || written != length)
+        return trouble("%s is not written", path);
+    return 1;
+}
+
+int keep(const char *folder, const char *name, const struct log *log,
+         const struct verdict *verdict)
+{
+    const struct sheet *sheet = &verdict->sheet;
+    const struct log *excerpt = &verdict->excerpt;
+    return write_file(folder, name, ".log", log->bytes, log->length) &&
+           write_file(folder, name, ".sheet", sheet->bytes, sheet->length) &&
+           (sheet_verdict(sheet) == 0 ||
+            write_file(folder, name, ".excerpt.log", excerpt->bytes, excerpt->length));
+}

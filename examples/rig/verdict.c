@@ -1,0 +1,66 @@
+#include "verdict.h"
+
+#include "trouble.h"
+
+unsigned sheet_verdict(const struct sheet *sheet)
+{
+    return sheet->bytes[1];
+}
+
+unsigned sheet_count(const struct sheet *sheet)
+{
+    return (unsigned)sheet->bytes[2] << 8 | sheet->bytes[3];
+}
+
+unsigned sheet_operation(const struct sheet *sheet, unsigned i)
+{
+    const uint8_t *number = sheet->bytes + 4 + 2 * i;
+    return (unsigned)number[0] << 8 | number[1];
+}
+
+/* Whether an answer is accepted. */
+static int accepted(yr_answer answer, const char *what)
+{
+    if (YR_REFUSED(answer) == 0)
+        return 1;
+    return trouble("%s is refused: %u, record %u", what, (unsigned)YR_REFUSED(answer),
+                   (unsigned)YR_VALUE(answer));
+}
+
+static int write_sheet(const struct log *log, struct sheet *sheet, const char *what)
+{
+    yr_answer answer = yr_judge(log->bytes, log->length, sheet->bytes, sizeof sheet->bytes);
+    sheet->length = YR_VALUE(answer);
+    return accepted(answer, what);
+}
+
+/* Whether the order on the sheet is legal for the log. */
+static int replay(const struct log *log, const struct sheet *sheet)
+{
+    yr_answer answer = yr_replay(log->bytes, log->length, sheet->bytes, sheet->length);
+    if (!accepted(answer, "the order"))
+        return 0;
+    return YR_VALUE(answer) == 1 || trouble("the order is not legal");
+}
+
+/* Writes the excerpt of the log and judges it by itself; whether that gives the same pattern. */
+static int judge_excerpt(const struct log *log, struct verdict *verdict)
+{
+    struct log *excerpt = &verdict->excerpt;
+    yr_answer answer =
+        yr_excerpt(log->bytes, log->length, excerpt->bytes, sizeof excerpt->bytes);
+    excerpt->length = YR_VALUE(answer);
+    if (!accepted(answer, "the excerpt") ||
+        !write_sheet(excerpt, &verdict->excerpt_sheet, "the log of the excerpt"))
+        return 0;
+    return sheet_verdict(&verdict->excerpt_sheet) == sheet_verdict(&verdict->sheet) ||
+           trouble("the excerpt judged by itself has another verdict");
+}
+
+int judge(const struct log *log, struct verdict *verdict)
+{
+    if (!write_sheet(log, &verdict->sheet, "the log"))
+        return 0;
+    return sheet_verdict(&verdict->sheet) == 0 ? replay(log, &verdict->sheet)
+                                               : judge_excerpt(log, verdict);
+}

@@ -1,0 +1,37 @@
+/*
+ * The verdict on a log with its grounds, which are tried every time.
+ */
+
+#ifndef VERDICT_H
+#define VERDICT_H
+
+#include <stddef.h>
+#include <stdint.h>
+
+#include "round.h"
+#include "yauponroof.h"
+
+struct sheet {
+    uint8_t bytes[YR_SHEET_MAX];
+    size_t length;
+};
+
+/* The sheet of a log; with a pattern also the excerpt and the excerpt's own sheet. */
+struct verdict {
+    struct sheet sheet;
+    struct log excerpt;
+    struct sheet excerpt_sheet;
+};
+
+/* The verdict on a sheet: 0 for an order, or the number of a pattern. */
+unsigned sheet_verdict(const struct sheet *sheet);
+
+/* How many operations a sheet lists, and the number of the one that stands at place i. */
+unsigned sheet_count(const struct sheet *sheet);
+unsigned sheet_operation(const struct sheet *sheet, unsigned i);
+
+/* Judges a log. An order is replayed, an excerpt judged by itself. 0 if there was trouble, which is
+   said: a refusal, an order that is not legal, an excerpt with another verdict. */
+int judge(const struct log *log, struct verdict *verdict);
+
+#endif /* VERDICT_H */

@@ -1,0 +1,109 @@
+//! All entries that take a log, on one log: held against the tests' own reader, their table of
+//! patterns, their search for an order where the log is short, their excerpts and narrowings.
+
+use yauponroof_tests::archive::{excerpt_made, judged};
+use yauponroof_tests::compare::{show, Tally};
+use yauponroof_tests::fenced::{Fenced, Place};
+use yauponroof_tests::guarded::written_twice;
+use yauponroof_tests::history::operations;
+use yauponroof_tests::lent_session::{answered, Outcome};
+use yauponroof_tests::narrowing::{compare_narrowing, narrowing_made};
+use yauponroof_tests::projection::values;
+use yauponroof_tests::reader::{self, Record};
+use yauponroof_tests::search::has_linearization;
+use yauponroof_tests::violations::first_violation;
+use yauponroof_tests::{excerpt, judge, narrow, refused, Answer};
+
+use crate::choices::Choices;
+use crate::reached::{Of, Reached};
+use crate::rooms::near;
+
+/// The search is quick for so few operations.
+const FEW: usize = 12;
+
+/// A value that few logs have.
+const OTHER_VALUE: u32 = 999;
+
+/// How the entries are called: where what they read lies, how long the buffers are that they write
+/// to, and which values the log is narrowed to, a bit for each of eight.
+pub struct Calls {
+    place: Place,
+    room: u8,
+    narrowed_to: u8,
+}
+
+impl Calls {
+    pub fn new(how: &mut Choices) -> Calls {
+        Calls {
+            place: how.pick(&Place::BOTH),
+            room: how.byte(),
+            narrowed_to: how.byte(),
+        }
+    }
+
+    /// Hands the log to all entries and compares.
+    pub fn compare(&self, log: &[u8], reached: &mut Reached) {
+        Fenced::new(log.len()).lend(log, self.place, |log| {
+            // Of the logs that a tally compares, the first one is judged too.
+            let mut tally = Tally::of_all_entries();
+            reached.count(Of::Check, tally.compare(log));
+            reached.count_verdicts(tally.archives().seen());
+            if let Ok(records) = reader::read(log) {
+                compare_with_search(log, &records);
+                self.compare_rooms(log, reached);
+                self.compare_narrowings(log, &self.values(&records), reached);
+            }
+        });
+    }
+
+    /// The judge and the excerpt, with other lengths of their buffers.
+    fn compare_rooms(&self, log: &[u8], reached: &mut Reached) {
+        let sheet = self.compare_room(judged(log), |sheet| judge(log, sheet));
+        reached.count(Of::Judge, sheet);
+        let kept = self.compare_room(excerpt_made(log), |out| excerpt(log, out));
+        reached.count(Of::Excerpt, kept);
+    }
+
+    /// Narrowing to these values, and the same.
+    fn compare_narrowings(&self, log: &[u8], values: &[u32], reached: &mut Reached) {
+        let fenced = Fenced::new(size_of_val(values));
+        fenced.lend_values(values, self.place, |values| {
+            compare_narrowing(log, values);
+            let made = narrowing_made(log, values);
+            let kept = self.compare_room(made, |out| narrow(log, values, out));
+            reached.count(Of::Narrow, kept);
+        });
+    }
+
+    /// With another length of its buffer a call gives what it gives with enough bytes, or 24.
+    fn compare_room(&self, enough: Outcome, call: impl FnMut(&mut [u8]) -> Answer) -> Answer {
+        let room = near(enough.as_ref().map_or(0, Vec::len), self.room);
+        let expected = match enough {
+            Ok(bytes) if room < bytes.len() => Err(refused(24, 0)),
+            outcome => outcome,
+        };
+        let outcome = written_twice(room, call);
+        assert_eq!(outcome, expected, "left: the library, with {room} bytes");
+        answered(&outcome)
+    }
+
+    /// One value that the log seldom has, then some of the log's, and the last of them once more.
+    fn values(&self, records: &[Record]) -> Vec<u32> {
+        let is_chosen = |(at, _): &(usize, u32)| self.narrowed_to >> (at % 8) & 1 == 1;
+        let of_log = values(records).into_iter().enumerate().filter(is_chosen);
+        let mut values = vec![OTHER_VALUE];
+        values.extend(of_log.map(|(_, value)| value));
+        values.extend(values.last().copied());
+        values
+    }
+}
+
+/// A pattern occurs exactly if the search finds no order.
+fn compare_with_search(log: &[u8], records: &[Record]) {
+    let operations = operations(records);
+    if operations.len() <= FEW {
+        let has_order = has_linearization(&operations);
+        let violation = first_violation(&operations);
+        assert_eq!(violation.is_none(), has_order, "of {}", show(log));
+    }
+}

@@ -1,0 +1,82 @@
+//! Which answers the library has given, so that a run that no longer reaches some answer is noticed.
+
+use yauponroof_tests::Answer;
+
+/// What is counted: the answers of an entry, and what accepted ones tell.
+#[derive(Clone, Copy)]
+pub enum Of {
+    Check,
+    Replay,
+    /// 0 for no, 1 for yes.
+    Replayed,
+    Judge,
+    Verdict,
+    Excerpt,
+    Narrow,
+    Begin,
+    Feed,
+    Close,
+    Sheet,
+    SessionExcerpt,
+}
+
+/// The name of each, and the numbers that are to be reached. Of an answer 0 is accepted, and the
+/// others are refusals. Only 21 of a feed is not: no input here holds 1,024 records.
+const TO_REACH: [(&str, &[usize]); 12] = [
+    ("yr_check", &[0, 1, 2, 3, 4, 5, 6, 7, 8, 9, 10]),
+    ("yr_replay", &[0, 1, 2, 3, 4, 5, 6, 7, 8, 9, 10, 11]),
+    ("yr_replay, no and yes", &[0, 1]),
+    ("yr_judge", &[0, 24]),
+    ("yr_judge, verdict", &[0, 1, 2, 3, 4, 5, 6]),
+    ("yr_excerpt", &[0, 23, 24]),
+    ("yr_narrow", &[0, 24]),
+    ("yr_begin", &[0, 24]),
+    ("yr_feed", &[0, 1, 4, 5, 6, 7, 8, 9, 20, 24, 25]),
+    ("yr_close", &[0, 10, 20, 24, 25]),
+    ("yr_sheet", &[0, 22, 24, 25]),
+    ("yr_session_excerpt", &[0, 22, 23, 24, 25]),
+];
+
+/// How often each number was reached.
+pub struct Reached([[u64; 26]; TO_REACH.len()]);
+
+impl Reached {
+    pub const fn new() -> Reached {
+        Reached([[0; 26]; TO_REACH.len()])
+    }
+
+    pub fn count(&mut self, of: Of, answer: Answer) {
+        let number = match answer {
+            Answer::Accepted(_) => 0,
+            Answer::Refused { number, .. } => number,
+        };
+        self.0[of as usize][number as usize] += 1;
+    }
+
+    pub fn count_replay(&mut self, answer: Answer) {
+        self.count(Of::Replay, answer);
+        if let Answer::Accepted(says) = answer {
+            self.0[Of::Replayed as usize][says as usize] += 1;
+        }
+    }
+
+    pub fn count_verdicts(&mut self, seen: [u64; 7]) {
+        let verdicts = self.0[Of::Verdict as usize].iter_mut();
+        verdicts
+            .zip(seen)
+            .for_each(|(verdict, times)| *verdict += times);
+    }
+
+    /// Prints how often each number was reached, and last 'N passed, M failed'; whether all were.
+    pub fn report(&self) -> bool {
+        let mut missed = 0;
+        for ((name, numbers), times) in TO_REACH.iter().zip(&self.0) {
+            let text = |&number: &usize| format!(" {number}: {}", times[number]);
+            println!("{name}:{}", numbers.iter().map(text).collect::<String>());
+            missed += numbers.iter().filter(|&&number| times[number] == 0).count();
+        }
+        let all: usize = TO_REACH.iter().map(|(_, numbers)| numbers.len()).sum();
+        println!("{} passed, {missed} failed", all - missed);
+        missed == 0
+    }
+}

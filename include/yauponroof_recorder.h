@@ -1,0 +1,225 @@
+/*
+ * yauponroof_recorder.h - writes logs for the judge of yauponroof.h
+ *
+ * A recorder writes the log of a run into a buffer of the caller's, one record for each call and
+ * each return. It knows when the log is full: it takes a call only if there is room for the call,
+ * for its return and for the returns of all calls that are still open. So the return of an open call
+ * always has room, and no log is left with a remove that cannot return.
+ *
+ *     static uint8_t log[YR_LOG_MAX], sheet[YR_SHEET_MAX];
+ *     yr_recorder recorder;
+ *     yr_recorder_begin(&recorder, log, sizeof log);
+ *     if (yr_recorder_add_called(&recorder, 1, 0, 7)) {
+ *         ... client 1 adds 7 to the queue ...
+ *         yr_recorder_add_returned(&recorder, 1, 1);
+ *     }
+ *     yr_judge(log, yr_recorder_length(&recorder), sheet, sizeof sheet);
+ *
+ * All functions are static inline, in C99 and in C++11, and use nothing else, so that there is
+ * nothing to link for them. examples/rig shows a rig with many clients that uses them.
+ *
+ * What the buffer holds
+ * ---------------------
+ * The first yr_recorder_length bytes of the buffer are at any time the log of all records taken so
+ * far, with their number in bytes 1 and 2. It can be judged or written away after each record; while
+ * a remove is open, it is refused (10). The bytes behind the log are as they were, and no byte
+ * outside the buffer is read or written. The recorder keeps the pointer to the buffer: the buffer has
+ * to stay where it is, and the log in it as it is, as long as records are appended.
+ *
+ * What can go wrong
+ * -----------------
+ * This header is not proved. What it writes is judged like any other bytes: the answers of the
+ * library are right for the log and know nothing of the run behind it. A mistake here or in the
+ * caller shows in one of two ways.
+ *
+ * The log is refused. The recorder does not look at clients, ticks and values. yr_check does, and
+ * refuses a log in which a tick is below the one before it (6), a client calls while its last call
+ * is open (7) or returns what it has not called (8), a value is added a second time (9), or a remove
+ * has not returned (10).
+ *
+ * Or the verdict is on another history than the one that ran:
+ *
+ * - A call that is recorded after the operation began, or a return before it ended, lets the
+ *   operation precede others that it overlapped. A correct queue may then be given a pattern. So
+ *   record the call before the operation begins, and the return after it has ended. That can only
+ *   make the operation longer: a correct queue still has an order, though a fault may be missed.
+ * - An operation that is not recorded changes what the log says of the others. Without its add, a
+ *   value that is removed gives pattern 1. Without its remove, a value counts as still there, and a
+ *   correct queue may be given pattern 4 or 6. Without both, the faults of a value are missed. So
+ *   record every operation from when the queue is empty on, and do not begin one whose call was not
+ *   taken.
+ *
+ * Several threads
+ * ---------------
+ * A recorder and its buffer are for one thread at a time. With a lock around the recorder the log
+ * would still be right, but the clients would wait for each other between their operations, which
+ * hides faults. Rather let each client number its calls and returns from one atomic counter and keep
+ * them to itself, and after the run append those of all clients in the order of their numbers, with
+ * the numbers as ticks. 512 operations that all return always fit into YR_LOG_MAX bytes.
+ */
+
+#ifndef YAUPONROOF_RECORDER_H
+#define YAUPONROOF_RECORDER_H
+
+#include <stddef.h>
+#include <stdint.h>
+
+#include "yauponroof.h"
+
+/* The kinds of record. */
+enum yr_recorder_kind {
+    YR_RECORDER_ADD_CALLED = 1,
+    YR_RECORDER_REMOVE_CALLED = 2,
+    YR_RECORDER_ADD_RETURNED = 3,
+    YR_RECORDER_REMOVE_RETURNED = 4,  /* with a value */
+    YR_RECORDER_REMOVE_EMPTY = 5
+};
+
+/* The bytes in front of the records, and those of a record without and with a value. */
+enum yr_recorder_size {
+    YR_RECORDER_HEADER = 3,
+    YR_RECORDER_SHORT = 8,
+    YR_RECORDER_LONG = YR_RECORD_MAX
+};
+
+/*
+ * A recorder. yr_recorder_begin sets the members, whatever they are before. The caller may read them.
+ */
+typedef struct yr_recorder {
+    uint8_t *log;           /* the buffer */
+    size_t room;            /* how many bytes it has */
+    size_t length;          /* how many of them are the log */
+    uint32_t records;       /* how many records the log has */
+    uint32_t open_adds;     /* how many calls of add have not returned */
+    uint32_t open_removes;  /* how many calls of remove have not returned */
+} yr_recorder;
+
+/*
+ * Begins the log of no records.
+ *
+ * In:   r       the recorder, apart from the buffer; never NULL; what it holds before does not matter
+ *       buffer  room bytes to write the log to; never NULL; what they hold before does not matter
+ *       room    any length; YR_LOG_MAX is enough for every log
+ * Out:  1 if the log is begun: the first 3 bytes of the buffer are then 1, 0, 0.
+ *       0 if room is below 3: recorder and buffer are then as they were, and the recorder is not to
+ *       be used.
+ */
+static inline int yr_recorder_begin(yr_recorder *r, uint8_t *buffer, size_t room)
+{
+    if (room < YR_RECORDER_HEADER)
+        return 0;
+    buffer[0] = 1;
+    buffer[1] = 0;
+    buffer[2] = 0;
+    r->log = buffer;
+    r->room = room;
+    r->length = YR_RECORDER_HEADER;
+    r->records = 0;
+    r->open_adds = 0;
+    r->open_removes = 0;
+    return 1;
+}
+
+/* How many bytes of the buffer are the log. */
+static inline size_t yr_recorder_length(const yr_recorder *r)
+{
+    return r->length;
+}
+
+/*
+ * Whether a call would be taken now, be it of add or of remove: both need two records of 20 bytes
+ * together, for the call and the return. 0 means that the log is full. It then stays so, unless a
+ * remove that is open returns empty, which needs 4 bytes less than were kept for it.
+ */
+static inline int yr_recorder_takes_call(const yr_recorder *r)
+{
+    uint32_t open = r->open_adds + r->open_removes;
+    size_t kept = (size_t)YR_RECORDER_SHORT * r->open_adds +
+                  (size_t)YR_RECORDER_LONG * r->open_removes;
+    return YR_MAX_RECORDS - r->records - open >= 2 &&
+           r->room - r->length - kept >= YR_RECORDER_SHORT + YR_RECORDER_LONG;
+}
+
+/* For use in this header: writes a number behind the log, in so many bytes, highest first. */
+static inline void yr_recorder_put(yr_recorder *r, uint32_t number, unsigned bytes)
+{
+    while (bytes-- > 0)
+        r->log[r->length++] = (uint8_t)(number >> (8 * bytes));
+}
+
+/* For use in this header: appends a record of that size up to its tick, and counts it. */
+static inline void yr_recorder_append(yr_recorder *r, enum yr_recorder_size size,
+                                      enum yr_recorder_kind kind, uint16_t client, uint32_t tick)
+{
+    yr_recorder_put(r, (uint32_t)size - 1, 1);
+    yr_recorder_put(r, (uint32_t)kind, 1);
+    yr_recorder_put(r, client, 2);
+    yr_recorder_put(r, tick, 4);
+    r->records++;
+    r->log[1] = (uint8_t)(r->records >> 8);
+    r->log[2] = (uint8_t)r->records;
+}
+
+/*
+ * The five records. Each function appends one.
+ *
+ * In:   r       a recorder that was begun; never NULL
+ *       client  any number, by which the records of a client are known
+ *       tick    any number that is not below the tick of the record before
+ *       value   of an add any number that no add before it has; of a remove what it returned
+ * Out:  1 if the record was taken: it stands at the end of the log, and the log's count and length
+ *       tell of it.
+ *       0 if it was not: recorder and buffer are as they were. A call is not taken if
+ *       yr_recorder_takes_call says no. A return is not taken if no add is open, or no remove, by
+ *       whichever client.
+ */
+static inline int yr_recorder_add_called(yr_recorder *r, uint16_t client, uint32_t tick,
+                                         uint32_t value)
+{
+    if (!yr_recorder_takes_call(r))
+        return 0;
+    yr_recorder_append(r, YR_RECORDER_LONG, YR_RECORDER_ADD_CALLED, client, tick);
+    yr_recorder_put(r, value, 4);
+    r->open_adds++;
+    return 1;
+}
+
+static inline int yr_recorder_add_returned(yr_recorder *r, uint16_t client, uint32_t tick)
+{
+    if (r->open_adds == 0)
+        return 0;
+    yr_recorder_append(r, YR_RECORDER_SHORT, YR_RECORDER_ADD_RETURNED, client, tick);
+    r->open_adds--;
+    return 1;
+}
+
+static inline int yr_recorder_remove_called(yr_recorder *r, uint16_t client, uint32_t tick)
+{
+    if (!yr_recorder_takes_call(r))
+        return 0;
+    yr_recorder_append(r, YR_RECORDER_SHORT, YR_RECORDER_REMOVE_CALLED, client, tick);
+    r->open_removes++;
+    return 1;
+}
+
+static inline int yr_recorder_remove_returned(yr_recorder *r, uint16_t client, uint32_t tick,
+                                              uint32_t value)
+{
+    if (r->open_removes == 0)
+        return 0;
+    yr_recorder_append(r, YR_RECORDER_LONG, YR_RECORDER_REMOVE_RETURNED, client, tick);
+    yr_recorder_put(r, value, 4);
+    r->open_removes--;
+    return 1;
+}
+
+static inline int yr_recorder_remove_empty(yr_recorder *r, uint16_t client, uint32_t tick)
+{
+    if (r->open_removes == 0)
+        return 0;
+    yr_recorder_append(r, YR_RECORDER_SHORT, YR_RECORDER_REMOVE_EMPTY, client, tick);
+    r->open_removes--;
+    return 1;
+}
+
+#endif /* YAUPONROOF_RECORDER_H */
