@@ -7,11 +7,11 @@ use mathlib.Core.Logic.{_⊎_, inl, inr}
 use mathlib.Core.List.{List, _++_}
 use lib.ListN.{length, take, drop}
 use lib.Seq.{take-append-seam}
-use Rattle.reader.specs.Choice.{if_then_else_}
+use Rattle.record.specs.Choice.{if_then_else_}
+use Rattle.record.specs.declared.record.Record.{Record}
 use Rattle.reader.specs.Buffer.{bufferTooShort, lacksRoom, written}
 use Rattle.reader.specs.Log.{maxRecords, Reading, readable, refused, readLog, operations, encodeLog}
 use Rattle.reader.specs.Readable.{Within}
-use Rattle.reader.specs.declared.record.Record.{Record}
 use Rattle.reader.proofs.Laws.{within, few-operations}
 use Rattle.history.specs.Operations.{historyOf}
 use Rattle.history.specs.Sheet.{orderVerdict, sheetOf, listedOn}

@@ -6,9 +6,9 @@ use mathlib.Core.Logic.{_⊎_, inl, inr}
 use mathlib.Core.List.{List}
 use lib.ListN.{length}
 use borrow.Author.Tests.{le-ltb, ne-eqb}
+use Rattle.record.specs.declared.record.Record.{Record}
 use Rattle.reader.specs.Buffer.{written}
 use Rattle.reader.specs.Log.{readable, readLog, encodeLog}
-use Rattle.reader.specs.declared.record.Record.{Record}
 use Rattle.reader.proofs.Laws.{readable-log}
 use Rattle.history.specs.Operations.{historyOf}
 use Rattle.history.specs.Sheet.{orderVerdict, sheetOf}

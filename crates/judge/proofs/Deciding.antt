@@ -7,7 +7,7 @@ use mathlib.Core.List.{List, [], _∷_}
 use lib.ListN.{length, take, replicate, length-replicate}
 use lib.Dec.{eqb}
 use lib.Seq.{sets, length-sets, sets-eq, take-append-seam}
-use Rattle.reader.specs.Choice.{if_then_else_}
+use Rattle.record.specs.Choice.{if_then_else_}
 use Rattle.reader.specs.Log.{maxRecords}
 use Rattle.reader.proofs.Search.{None}
 use Rattle.history.specs.History.{History, add, emptyRemove}

@@ -8,11 +8,11 @@ use lib.ListN.{length, take, drop}
 use lib.Dec.{eqb}
 use lib.Seq.{take-append-seam, drop-append-seam}
 use borrow.Author.Tests.{eqb-true, ltb-true}
-use Rattle.reader.specs.Choice.{if_then_else_}
+use Rattle.record.specs.Choice.{if_then_else_}
+use Rattle.record.specs.declared.record.Record.{Record}
 use Rattle.reader.specs.Buffer.{bufferTooShort, lacksRoom}
 use Rattle.reader.specs.Log.{maxRecords, Reading, readable, refused, readLog}
 use Rattle.reader.specs.Readable.{Within}
-use Rattle.reader.specs.declared.record.Record.{Record}
 use Rattle.reader.proofs.Laws.{readable-log, within}
 use Rattle.history.specs.History.{Lawful}
 use Rattle.history.specs.Operations.{historyOf}

@@ -3,7 +3,7 @@ use Prim.Native.Nat.{ℕ, _-_, _<_}
 use mathlib.Core.Path.{_≡_}
 use mathlib.Core.List.{List}
 use lib.Dec.{eqb}
-use Rattle.reader.specs.Choice.{if_then_else_}
+use Rattle.record.specs.Choice.{if_then_else_}
 use Rattle.history.specs.History.{add}
 use Rattle.history.specs.Table.{kindAt, callAt, returnAt}
 use Rattle.judge.specs.Matching.{partnerAt}

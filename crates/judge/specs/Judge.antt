@@ -5,10 +5,10 @@ use mathlib.Core.Path.{_≡_}
 use mathlib.Core.List.{List}
 use lib.ListN.{length}
 use lib.Dec.{eqb}
-use Rattle.reader.specs.Choice.{if_then_else_}
+use Rattle.record.specs.Choice.{if_then_else_}
+use Rattle.record.specs.declared.record.Record.{Record}
 use Rattle.reader.specs.Buffer.{bufferTooShort, lacksRoom, written}
 use Rattle.reader.specs.Log.{Reading, readable, refused}
-use Rattle.reader.specs.declared.record.Record.{Record}
 use Rattle.history.specs.Operations.{historyOf}
 use Rattle.history.specs.Sheet.{sheetHeader, orderVerdict, sheetOf}
 use Rattle.violations.specs.Verdict as violations

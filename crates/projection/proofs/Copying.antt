@@ -7,8 +7,8 @@ use mathlib.Core.Path.{_≡_, refl, _∙_}
 use mathlib.Core.List.{List, [], _∷_, _++_, append-assoc}
 use lib.ListN.{length, getD, set, take, drop, length-set, length-append, length-drop}
 use lib.Seq.{sets-eq, paste, paste-zero, paste-suc, take-length, take-at, drop-at, drop-drop, length-take-le}
+use Rattle.record.specs.Number.{bytesOf}
 use Rattle.reader.specs.Log.{logVersion, headerLength, maxRecords}
-use Rattle.reader.specs.Number.{bytesOf}
 use Rattle.reader.specs.Buffer.{put}
 
 -- The loop of `copy` has come to byte i.

@@ -5,13 +5,14 @@ use mathlib.Core.Path.{_≡_, refl, sym, ap, _∙_}
 use mathlib.Core.List.{List, _++_}
 use lib.ListN.{length, getD, take, drop, length-drop}
 use lib.Seq.{length-take-le}
+use Rattle.record.specs.Choice.{if_then_else_}
+use Rattle.record.specs.Cursor.{behind}
+use Rattle.record.specs.Record.{decodeAt, sizeOf}
+use Rattle.record.specs.Number.{Bytes}
+use Rattle.record.specs.declared.record.Record.{Record}
 use Rattle.reader.specs.Buffer.{put}
-use Rattle.reader.specs.Choice.{if_then_else_}
-use Rattle.reader.specs.Cursor.{behind}
-use Rattle.reader.specs.Record.{decodeAt}
 use Rattle.reader.specs.Log.{headerLength, maxRecords, encodeAll}
-use Rattle.reader.specs.Readable.{Bytes, recordOf, sizeOf, sizes}
-use Rattle.reader.specs.declared.record.Record.{Record}
+use Rattle.reader.specs.Readable.{recordOf, sizes}
 use Rattle.history.specs.Table.{Whole}
 use Rattle.projection.specs.Marks.{isSet}
 use Rattle.projection.specs.Copies.{chosen, marked, ifSet, RoomFor, Copied}

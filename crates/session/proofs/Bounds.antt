@@ -8,19 +8,19 @@ use lib.ListN.{length, getD}
 use lib.Dec.{ltb, leb, eqb}
 use lib.Seq.{length-take-le}
 use borrow.Author.Tests.{eqb-true, eqb-false}
-use Rattle.reader.specs.Choice.{if_then_else_}
+use Rattle.record.specs.Choice.{if_then_else_}
+use Rattle.record.specs.Record.{decodeAt}
+use Rattle.record.specs.declared.record.Record.{Record}
+use Rattle.record.specs.declared.record.Decoded.{Decoded}
+use Rattle.record.specs.declared.record.Decoded.the-variants.{Found, Malformed}
+use Rattle.record.proofs.Records.{event-most}
 use Rattle.reader.specs.Buffer.{bufferTooShort, lacksRoom}
-use Rattle.reader.specs.Record.{decodeAt}
 use Rattle.reader.specs.Log.{maxRecords, maxLength, Reading, readable, refused, readPartial}
 use Rattle.reader.specs.Feed.{isOneRecord, decodedFault, faultBehind, extended}
-use Rattle.reader.specs.declared.record.Record.{Record}
-use Rattle.reader.specs.declared.record.Decoded.{Decoded}
-use Rattle.reader.specs.declared.record.Decoded.the-variants.{Found, Malformed}
 use Rattle.reader.specs.declared.log.Extension.{Extension}
 use Rattle.reader.specs.declared.log.Extension.the-variants.{Unreadable, Full, Faulty, Fits}
 use Rattle.reader.proofs.Bounds.{Known, decode-known}
 use Rattle.reader.proofs.Bytes.{decode-inverts}
-use Rattle.reader.proofs.Records.{event-most}
 use Rattle.reader.proofs.Laws.{partial-log}
 use Rattle.session.specs.Session.{openStage, heldLog, stageRefusal, emptyLog, beginAnswer, fedAnswer, feedAnswer}
 use Rattle.session.specs.declared.answer.Answer.{Answer}

@@ -7,12 +7,12 @@ use mathlib.Core.List.{List, [], _∷_, _++_, map}
 use lib.ListN.{length, take, drop}
 use lib.Dec.{eqb}
 use borrow.Author.Tests.{eqb-false}
-use Rattle.reader.specs.Choice.{if_then_else_}
+use Rattle.record.specs.Choice.{if_then_else_}
+use Rattle.record.specs.Record.{encode, sizeOf}
+use Rattle.record.specs.Number.{Bytes}
+use Rattle.record.specs.declared.record.Record.{Record}
 use Rattle.reader.specs.Buffer.{bufferTooShort, lacksRoom, put}
-use Rattle.reader.specs.Record.{encode}
 use Rattle.reader.specs.Log.{headerLength, countField, withCount, Reading, refused, readable, readPartial, readLog}
-use Rattle.reader.specs.Readable.{Bytes, sizeOf}
-use Rattle.reader.specs.declared.record.Record.{Record}
 use Rattle.judge.specs.Judge as Judge
 use Rattle.judge.specs.Judge.{sheetBytes, Judges}
 use Rattle.judge.specs.declared.judge.Verdict.{Verdict}
