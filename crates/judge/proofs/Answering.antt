@@ -19,7 +19,7 @@ use Rattle.history.proofs.Laws.{history-lawful}
 use Rattle.history.proofs.Sheets.{sheet-length}
 use Rattle.history.proofs.Tabulating.{Tabled}
 use Rattle.violations.proofs.Laws.{verdict-small, agree-lawful, agree-verdict, agree-found}
-use Rattle.judge.specs.Held.{Held}
+use Rattle.matching.specs.Held.{Held}
 use Rattle.judge.specs.Decision.{Decided}
 use Rattle.judge.specs.Judge.{Delivers, Judges, judged, turned-down}
 use Rattle.judge.specs.declared.judge.Verdict.{Verdict}

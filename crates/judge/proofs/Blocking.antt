@@ -7,10 +7,11 @@ use mathlib.Core.List.{List}
 use lib.Dec.{ltb}
 use Rattle.history.specs.History.{add}
 use Rattle.history.specs.Table.{kindAt, callAt, returnAt}
-use Rattle.judge.specs.Matching.{First, Told, partnerAt}
-use Rattle.judge.specs.Gaps.{reachAt}
+use Rattle.matching.specs.Answers.{First, Told}
+use Rattle.matching.specs.Matching.{partnerAt}
+use Rattle.matching.specs.Reaches.{reachAt}
+use Rattle.matching.proofs.Telling.{told-less}
 use Rattle.judge.specs.Blocked.{patternBy, Blocks, Blocking}
-use Rattle.judge.proofs.Telling.{told-less}
 
 -- an add that is removed is blocked by one that precedes it if its remove returns in time
 pub told-blocks : (table partner reach : List ℕ) (a b : ℕ) → kindAt table b ≡ add → (partnerAt partner b ≡ 0 → ⊥) → returnAt table a < callAt table b

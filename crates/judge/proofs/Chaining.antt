@@ -10,10 +10,10 @@ use Rattle.reader.specs.Log.{maxRecords}
 use Rattle.history.specs.History.{History, emptyRemove}
 use Rattle.violations.specs.Violations.{Is, Covered, AllCovered, Furthest, Chain, all, link}
 use Rattle.violations.proofs.Chains.{chained-exactly}
-use Rattle.judge.specs.Held.{Held}
-use Rattle.judge.specs.Gaps.{reachAt}
-use Rattle.judge.specs.Chains.{Reaching, Adds, Chained, FirstChained}
-use Rattle.judge.proofs.Firsts.{Unfound}
+use Rattle.matching.specs.Held.{Held}
+use Rattle.matching.specs.Reaches.{reachAt, Reaching}
+use Rattle.matching.proofs.Firsts.{Unfound}
+use Rattle.judge.specs.Chains.{Adds, Chained, FirstChained}
 use Rattle.judge.proofs.Furthering.{Furthered, furthered-starts, furthered-not, furthered-more, none-reaches-further, furthest-found}
 
 -- The first numbers of the list are e and the first links of its chain, which goes on at the gap.

@@ -1,44 +1,35 @@
 -- What the steps of the decision find is the verdict on the history in the table.
-use Prim.Native.Nat.{ℕ, zero, suc, _+_, _-_, _≤_, _<_}
+use Prim.Native.Nat.{ℕ, zero, suc, _-_, _≤_, _<_}
 use native.Mathlib.Omega.{arith}
 use mathlib.Core.Path.{_≡_, _∙_}
 use mathlib.Core.Logic.{inl, inr}
 use mathlib.Core.List.{List, [], _∷_}
-use lib.ListN.{length, take, replicate, length-replicate}
+use lib.ListN.{length, take}
 use lib.Dec.{eqb}
 use lib.Seq.{sets, length-sets, sets-eq, take-append-seam}
 use Rattle.record.specs.Choice.{if_then_else_}
 use Rattle.reader.specs.Log.{maxRecords}
 use Rattle.reader.proofs.Search.{None}
-use Rattle.history.specs.History.{History, add, emptyRemove}
+use Rattle.history.specs.History.{History}
 use Rattle.history.specs.Sheet.{orderVerdict}
 use Rattle.history.specs.Table.{tabled}
-use Rattle.history.proofs.Basics.{zeros}
-use Rattle.violations.specs.Violations.{Is, Removed, falseEmpty, NoViolation}
+use Rattle.violations.specs.Violations.{NoViolation}
 use Rattle.violations.specs.Verdict.{FirstViolation, Verdict}
-use Rattle.violations.specs.Search.{Single, Sound, LastGap, Found}
-use Rattle.violations.proofs.Laws.{occurs-numbered, excluded, tables-match, tables-fit}
-use Rattle.violations.proofs.Chains.{false-empty}
-use Rattle.judge.specs.Held.{Held}
-use Rattle.judge.specs.Matching.{First, Cleared, Partners, Shows, unknown, twice, early, Again, partnerAt}
-use Rattle.judge.specs.Gaps.{reachAt, ReachTable, Uncovered}
-use Rattle.judge.specs.Bounds.{limitAt, LimitTable}
+use Rattle.violations.specs.Search.{Single}
+use Rattle.violations.proofs.Laws.{occurs-numbered, tables-match}
+use Rattle.matching.specs.Held.{Held}
+use Rattle.matching.specs.Answers.{First}
+use Rattle.matching.specs.Matching.{Partners, partnerAt}
+use Rattle.matching.specs.Reaches.{ReachTable, Reaching}
+use Rattle.matching.proofs.Firsts.{none-found}
+use Rattle.search.specs.Order.{OrderListed}
+use Rattle.judge.specs.Signs.{Shows, unknown, twice, early, Again}
 use Rattle.judge.specs.Blocked.{Blocks, Blocking}
-use Rattle.judge.specs.Chains.{Reaching, FirstChained}
-use Rattle.judge.specs.Searching.{gapAt, Limits, Ends}
-use Rattle.judge.specs.Decision.{Decided, Clean, Unsigned, Signed, Ordered, InTurn, Paired}
-use Rattle.judge.specs.declared.search.Ended.{Ended}
-use Rattle.judge.specs.declared.search.Ended.the-variants.{Whole, Short}
-use Rattle.judge.proofs.Firsts.{none-found}
-use Rattle.judge.proofs.Signs.{unknown-first, twice-first, early-first, three-ruled-out, reaching}
+use Rattle.judge.specs.Chains.{FirstChained}
+use Rattle.judge.specs.Decision.{Decided, Clean, Unsigned, Signed, InTurn, Paired}
+use Rattle.judge.proofs.Signing.{unknown-first, twice-first, early-first, three-ruled-out, reaching}
 use Rattle.judge.proofs.Pairs.{stuck-first, overtaken-first, pairs-ruled-out}
 use Rattle.judge.proofs.FalseEmpties.{chained-first, chained-none}
-use Rattle.judge.proofs.Fitting.{Kinds, is-add, is-remove, is-empty, kinds}
-use Rattle.judge.proofs.LastGaps.{limit-add-removed, limit-other, last-gap}
-
--- a new table is cleared
-pub new-cleared : Cleared (replicate maxRecords 0)
-new-cleared = record { sized = length-replicate {A = ℕ} maxRecords 0; zero = zeros maxRecords }
 
 -- a pattern whose operations are stored at the front of the list is decided
 listed-first : (listed list : List ℕ) → length listed ≤ length list → take (length listed) (sets list 0 listed) ≡ listed
@@ -55,6 +46,10 @@ decided listed list sized few first = record {
   verdict = rw (listed-first listed list (omega arith)) (Verdict.violation first);
   chosen = no-order first;
 }
+
+-- an order that the search finds is decided
+pub decided-order : {h : History} {k : ℕ} {list : List ℕ} → OrderListed h k list → Decided h orderVerdict k list
+decided-order order = record { sized = order .sized; within = order .within; verdict = Verdict.linearization (order .judged); chosen = λ e. order .found }
 
 -- Patterns 1 to 3.
 module _ {count end : ℕ} {table partner : List ℕ} (held : Held (tabled count end table)) (partners : Partners table count partner) (list : List ℕ) (sized : length list ≡ maxRecords) where
@@ -107,39 +102,6 @@ module _ {count end : ℕ} {table partner : List ℕ} (held : Held (tabled count
   module _ {reach : List ℕ} (right : Reaching (tabled count end table) reach) where
     pub single : Single (tabled count end table)
     single = tables-match (right .reaches) (λ n listed l. clean-three n listed (omega arith)) .single
-
-    -- The search for an order.
-    module _ {gaps limit : List ℕ} (limited : LimitTable count end table partner gaps limit) where
-      pub limits-right : Limits (tabled count end table) limit
-      limits-right = record {
-        sized = limited .sized;
-        removed-adds = λ a r is out. limit-add-removed held partners limited single is out;
-        others = others;
-      }
-        where
-          others : (o : ℕ) → o < count → (tabled count end table .kind o ≡ emptyRemove → ⊥) → (Is (tabled count end table) add o → Removed (tabled count end table) o → ⊥) → limitAt limit o ≡ end + 1
-          others o known full never = go (kinds held o known)
-            where
-              go : Kinds (tabled count end table) o → limitAt limit o ≡ end + 1
-              go (is-add is) = limit-other held partners limited (inr (is, never is))
-              go (is-remove is) = limit-other held partners limited (inl is)
-              go (is-empty is) = absurd (full (is .kinds))
-
-      -- where no pattern occurs, the tables serve
-      module _ (uncovered : Uncovered (tabled count end table) reach end gaps) where
-        have-gaps : NoViolation (tabled count end table) → (e : ℕ) → Is (tabled count end table) emptyRemove e → (0 < limitAt limit e) × LastGap (tabled count end table) e (gapAt limit e)
-        have-gaps clean e is = last-gap held partners limited right uncovered is (λ covered. let (chain, found) = false-empty is covered in clean 6 (e ∷ chain) (falseEmpty found))
-
-        tables-serve : NoViolation (tabled count end table) → Sound (tabled count end table) (reachAt reach) (gapAt limit)
-        tables-serve clean = tables-fit (held .lawful) (right .reaches) (λ n listed l. clean n listed) (λ e is. have-gaps clean e is .1 .lies) (λ e is. have-gaps clean e is .1 .uncovered)
-
-        pub ordered : (list : List ℕ) (ended : Ended) → Ends (tabled count end table) reach limit ended list → Ordered (tabled count end table) ended list
-        ordered list (Whole k) (within, sized, judged, continues) =
-            let clean : NoViolation (tabled count end table) = λ n listed. excluded (held .lawful) (judged .legal) in
-            let found : Found (tabled count end table) (take k list) =
-            record { reach = reachAt reach; gap = gapAt limit; reaches = right .reaches; gaps = λ e is. have-gaps clean e is .1; continues = continues (λ e is. have-gaps clean e is .0) } in
-            record { sized = sized; within = within; verdict = Verdict.linearization judged; chosen = λ e. found }
-        ordered list Short (sized, unfit) = (sized, λ clean. unfit (tables-serve clean) (λ e is. have-gaps clean e is .0))
 
     -- Patterns 4 and 5.
     pub paired-none : (list : List ℕ) → length list ≡ maxRecords → {pattern a : ℕ} → First (Blocking table count partner reach pattern) count a → count ≤ a → Paired (tabled count end table) table partner reach pattern 0 list

@@ -13,7 +13,7 @@ use Rattle.violations.proofs.Occurrences.{occurs-numbered}
 use Rattle.violations.proofs.Lowest.{lower-differs}
 use Rattle.violations.proofs.Chains.{chain-one}
 use Rattle.judge.specs.Chains.{FirstChained}
-use Rattle.judge.proofs.Firsts.{not-lower}
+use Rattle.judge.proofs.Lower.{not-lower}
 
 -- a false empty is not above any other if its empty remove is not
 lowest-false-empty : {h : History} {e : ℕ} {chain : List ℕ} → FalseEmpty h e chain → ((f : ℕ) → f < e → Is h emptyRemove f → AllCovered h f → ⊥)

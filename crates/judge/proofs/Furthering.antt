@@ -9,8 +9,8 @@ use lib.ListN.{getD}
 use Rattle.history.specs.History.{History, add}
 use Rattle.history.proofs.Basics.{up-to}
 use Rattle.violations.specs.Violations.{Is, Covers, Furthest}
-use Rattle.judge.specs.Gaps.{reachAt}
-use Rattle.judge.specs.Chains.{Reaching, Adds}
+use Rattle.matching.specs.Reaches.{reachAt, Reaching}
+use Rattle.judge.specs.Chains.{Adds}
 
 -- `best` is the first of the first i adds whose value covers the gap and reaches `far`.
 pub record Best (h : History) (reach adds : List ℕ) (gap i far best : ℕ) : Type 0 where

@@ -13,13 +13,14 @@ use Rattle.violations.specs.Verdict.{Lower, FirstViolation}
 use Rattle.violations.proofs.Lowest.{lower-differs}
 use Rattle.violations.proofs.Operations.{is-returned}
 use Rattle.violations.proofs.Constructing.{tables-match}
-use Rattle.judge.specs.Held.{Held}
-use Rattle.judge.specs.Matching.{First, partnerAt, Partners}
-use Rattle.judge.specs.Gaps.{reachAt}
+use Rattle.matching.specs.Held.{Held}
+use Rattle.matching.specs.Answers.{First}
+use Rattle.matching.specs.Matching.{partnerAt, Partners}
+use Rattle.matching.specs.Reaches.{reachAt, Reaching}
+use Rattle.matching.proofs.Firsts.{first-not-above}
+use Rattle.matching.proofs.Partnering.{remover-latest, remover-of, remover-is, unpartnered-never, never-unpartnered}
 use Rattle.judge.specs.Blocked.{Blocks, patternBy, Blocking}
-use Rattle.judge.specs.Chains.{Reaching}
-use Rattle.judge.proofs.Firsts.{first-not-above, not-lower}
-use Rattle.judge.proofs.Partnering.{remover-latest, remover-of, remover-is, unpartnered-never, never-unpartnered}
+use Rattle.judge.proofs.Lower.{not-lower}
 
 -- an add that is never removed shows pattern 4, one that is removed pattern 5
 stuck-pattern : (partner : List ℕ) (a : ℕ) → partnerAt partner a ≡ 0 → patternBy partner a ≡ 4

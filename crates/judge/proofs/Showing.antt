@@ -8,8 +8,10 @@ use lib.Dec.{ltb, eqb}
 use borrow.Author.Tests.{ltb-true, eqb-true, eqb-false, lt-ltb, eq-eqb, ne-eqb, not-true}
 use Rattle.history.specs.History.{remove}
 use Rattle.history.specs.Table.{kindAt, callAt, returnAt}
-use Rattle.judge.specs.Matching.{Told, partnerAt, Shows, unknown, twice, early}
-use Rattle.judge.proofs.Telling.{told}
+use Rattle.matching.specs.Answers.{Told}
+use Rattle.matching.specs.Matching.{partnerAt}
+use Rattle.matching.proofs.Telling.{told}
+use Rattle.judge.specs.Signs.{Shows, unknown, twice, early}
 
 module _ (table partner : List ℕ) (pattern r : ℕ) where
   -- what is no remove shows nothing

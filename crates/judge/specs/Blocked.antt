@@ -6,8 +6,8 @@ use lib.Dec.{eqb}
 use Rattle.record.specs.Choice.{if_then_else_}
 use Rattle.history.specs.History.{add}
 use Rattle.history.specs.Table.{kindAt, callAt, returnAt}
-use Rattle.judge.specs.Matching.{partnerAt}
-use Rattle.judge.specs.Gaps.{reachAt}
+use Rattle.matching.specs.Matching.{partnerAt}
+use Rattle.matching.specs.Reaches.{reachAt}
 
 -- Add a precedes add b, whose remove returns before the value of a stops covering.
 pub record Blocks (table partner reach : List ℕ) (a b : ℕ) : Type 0 where

@@ -5,15 +5,7 @@ use mathlib.Core.List.{List, _∷_}
 use lib.ListN.{length, getD, take}
 use Rattle.reader.specs.Log.{maxRecords}
 use Rattle.history.specs.History.{History, add, emptyRemove, Returned}
-use Rattle.violations.specs.Violations.{Is, Reaches, AllCovered, Chain, FalseEmpty}
-use Rattle.judge.specs.Gaps.{reachAt}
-
--- The table of reaches is right.
-pub record Reaching (h : History) (reach : List ℕ) : Type 0 where
-  pub sized : length reach ≡ maxRecords
-  pub reaches : (a : ℕ) → Is h add a → Reaches h a (reachAt reach a)
-  -- no value reaches to two places, since none is removed twice
-  pub only : (a far : ℕ) → Is h add a → Reaches h a far → far ≡ reachAt reach a
+use Rattle.violations.specs.Violations.{Is, AllCovered, Chain, FalseEmpty}
 
 -- a is an add that has returned: others cover no gap
 pub record ReturnedAdd (h : History) (a : ℕ) : Type 0 where

@@ -8,13 +8,11 @@ use Rattle.reader.specs.Log.{maxRecords}
 use Rattle.reader.proofs.Search.{None}
 use Rattle.history.specs.History.{History}
 use Rattle.history.specs.Sheet.{orderVerdict}
-use Rattle.violations.specs.Violations.{Occurs, NoViolation}
+use Rattle.violations.specs.Violations.{Occurs}
 use Rattle.violations.specs.Verdict.{Verdict}
 use Rattle.violations.specs.Search.{Found}
-use Rattle.judge.specs.Matching.{Shows}
+use Rattle.judge.specs.Signs.{Shows}
 use Rattle.judge.specs.Blocked.{Blocking}
-use Rattle.judge.specs.declared.search.Ended.{Ended}
-use Rattle.judge.specs.declared.search.Ended.the-variants.{Whole, Short}
 
 -- The first k numbers of the list are the operations that the verdict lists. An order is the one that the search finds.
 pub record Decided (h : History) (byte k : ℕ) (list : List ℕ) : Type 0 where
@@ -38,11 +36,6 @@ pub record Signed (h : History) (table partner : List ℕ) (byte k : ℕ) (list 
   pub sized : length list ≡ maxRecords
   pub found : 0 < byte → Decided h byte k list
   pub none : byte ≡ 0 → Unsigned table (h .count) partner
-
--- An order is found, or some pattern occurs.
-abbrev pub Ordered : History → Ended → List ℕ → Type 0
-Ordered h (Whole k) list = Decided h orderVerdict k list
-Ordered h Short list = (length list ≡ maxRecords) × (NoViolation h → ⊥)
 
 -- Pattern 4 or 5 may be looked for: 5 if 4 is not there.
 abbrev pub InTurn : List ℕ → ℕ → List ℕ → List ℕ → ℕ → Type 0

@@ -1,9 +1,5 @@
 pub mod Judge
-pub mod Held
-pub mod Matching
-pub mod Gaps
-pub mod Bounds
+pub mod Signs
 pub mod Blocked
 pub mod Chains
-pub mod Searching
 pub mod Decision

@@ -4,15 +4,16 @@ ghost use mathlib.Core.Path.{_≡_};
 ghost use Prim.Native.Nat.{_≤_, _<_};
 ghost use lib.ListN.{length};
 ghost use Rattle.reader.specs.Log.{maxRecords};
-ghost use Rattle.judge.specs.Matching.{First, Told, Partners};
+ghost use Rattle.matching.specs.Answers.{First, Told};
+ghost use Rattle.matching.specs.Matching.{Partners};
 ghost use Rattle.judge.specs.Blocked.{patternBy, Blocks, Blocking};
-use crate::values::Numbers;
 use history::operations::ADD;
 use history::operations::CALL;
 use history::operations::FIELDS;
 use history::operations::KIND;
 use history::operations::Operations;
 use history::operations::RETURN;
+use matching::values::Numbers;
 
 // The patterns that a pair of adds shows.
 pub const STUCK: u32 = 4;

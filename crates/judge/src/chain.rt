@@ -4,12 +4,12 @@ ghost use Prim.Native.Nat.{_≤_, _<_};
 ghost use lib.ListN.{length};
 ghost use Rattle.reader.specs.Log.{maxRecords};
 ghost use Rattle.history.specs.Table.{tabled};
-ghost use Rattle.judge.specs.Held.{Held};
-ghost use Rattle.judge.specs.Matching.{Told};
-ghost use Rattle.judge.specs.Chains.{Reaching, ReturnedAdd, Adds, Chained, FirstChained};
 ghost use Rattle.history.specs.History.{emptyRemove};
 ghost use Rattle.violations.specs.Violations.{Is};
-use crate::values::Numbers;
+ghost use Rattle.matching.specs.Held.{Held};
+ghost use Rattle.matching.specs.Answers.{Told};
+ghost use Rattle.matching.specs.Reaches.{Reaching};
+ghost use Rattle.judge.specs.Chains.{ReturnedAdd, Adds, Chained, FirstChained};
 use history::operations::ADD;
 use history::operations::CALL;
 use history::operations::EMPTY_REMOVE;
@@ -17,6 +17,7 @@ use history::operations::FIELDS;
 use history::operations::KIND;
 use history::operations::Operations;
 use history::operations::RETURN;
+use matching::values::Numbers;
 use reader::format::MAX_RECORDS;
 
 // Whether an operation is an add that has returned: only the value of such a one covers gaps.

@@ -5,31 +5,27 @@ ghost use lib.ListN.{length};
 ghost use Rattle.reader.specs.Log.{maxRecords};
 ghost use Rattle.history.specs.Table.{tabled};
 ghost use Rattle.violations.specs.Violations.{NoViolation};
-ghost use Rattle.judge.specs.Held.{Held};
-ghost use Rattle.judge.specs.Matching.{Partners};
-ghost use Rattle.judge.specs.Chains.{Reaching};
-ghost use Rattle.judge.specs.Decision.{Decided, Unsigned, Signed, Ordered, InTurn, Paired};
+ghost use Rattle.matching.specs.Held.{Held};
+ghost use Rattle.matching.specs.Matching.{Partners};
+ghost use Rattle.matching.specs.Reaches.{Reaching};
+ghost use Rattle.judge.specs.Decision.{Decided, Unsigned, Signed, InTurn, Paired};
 use crate::blocked::OVERTAKEN;
 use crate::blocked::STUCK;
 use crate::blocked::blocked_by;
 use crate::blocked::first_blocking;
-use crate::bounds::BOUNDS;
-use crate::bounds::fill_bounds;
-use crate::bounds::fill_limits;
 use crate::chain::false_empty;
-use crate::gaps::fill_gaps;
-use crate::gaps::fill_reaches;
-use crate::search::Ended;
-use crate::search::search;
-use crate::values::EARLY;
-use crate::values::Numbers;
-use crate::values::TWICE;
-use crate::values::UNKNOWN;
-use crate::values::first_showing;
-use crate::values::match_values;
-use crate::values::removed_again;
+use crate::signs::EARLY;
+use crate::signs::TWICE;
+use crate::signs::UNKNOWN;
+use crate::signs::first_showing;
+use crate::signs::removed_again;
 use history::operations::Operations;
+use matching::reaches::fill_reaches;
+use matching::values::Numbers;
+use matching::values::match_values;
 use reader::format::MAX_RECORDS;
+use search::order::Ended;
+use search::order::find_order;
 
 // The verdict byte, 0 for an order or the number of a pattern, and how many operations it lists.
 pub struct Finding {
@@ -82,27 +78,6 @@ fn find_sign(
         verdict: ORDER,
         listed: 0,
     }
-}
-
-// Searches for an order, by the limits that operations set.
-fn find_order(
-    table: &Operations,
-    count: usize,
-    end: usize,
-    partner: &Numbers,
-    reach: &Numbers,
-    list: &mut Numbers,
-) -> Ended
-    requires { ⌜ Held (tabled count end (now table)) × Partners (now table) count (now partner) × Unsigned (now table) count (now partner) × Reaching (tabled count end (now table)) (now reach) × (length (now list) ≡ maxRecords) ⌝ }
-    ensures { λ r. ⌜ Ordered (tabled count end (now (table .entry))) r (now (list .exit)) ⌝ }
-{
-    let mut gaps = [0u32; MAX_RECORDS];
-    fill_gaps(table, count, end, reach, &mut gaps);
-    let mut limit = [0u32; MAX_RECORDS];
-    fill_limits(table, count, end, partner, &gaps, &mut limit);
-    let mut bound = [0u32; BOUNDS];
-    fill_bounds(count, end, &limit, &mut bound);
-    search(table, count, end, reach, &limit, &bound, list)
 }
 
 // Pattern 4 or 5, the lowest pair of adds that shows it. Answers how many operations are listed, 0 if there is none.

@@ -9,9 +9,9 @@ use crate::decide::ORDER;
 use crate::decide::decide;
 use crate::sheet::HEADER;
 use crate::sheet::write_sheet;
-use crate::values::Numbers;
 use history::operations::TABLE;
 use history::operations::tabulate;
+use matching::values::Numbers;
 use reader::format::MAX_RECORDS;
 use reader::log::Checked;
 

@@ -5,7 +5,7 @@ ghost use lib.ListN.{length, take, set};
 ghost use Rattle.reader.specs.Log.{maxRecords};
 ghost use Rattle.reader.specs.Buffer.{written};
 ghost use Rattle.history.specs.Sheet.{sheetHeader, sheetOf};
-use crate::values::Numbers;
+use matching::values::Numbers;
 
 const VERSION: u8 = 1;
 

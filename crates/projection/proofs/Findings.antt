@@ -21,7 +21,7 @@ use Rattle.history.proofs.Laws.{history-lawful}
 use Rattle.violations.specs.Violations.{NoViolation}
 use Rattle.violations.specs.Verdict.{FirstViolation, Verdict}
 use Rattle.violations.proofs.Laws.{SomeViolation, first-violation, first-violation-one, occurs-known, excluded, zero-is-linearization, pattern-of, agree-lawful, agree-verdict}
-use Rattle.judge.specs.Held.{Held}
+use Rattle.matching.specs.Held.{Held}
 use Rattle.judge.specs.Decision.{Decided}
 use Rattle.projection.specs.Projection.{valuesOf, projection, excerpted}
 use Rattle.projection.specs.Outcome.{noPattern, writing, excerptAnswerOf, excerptLeavesOf, excerptAnswer, excerptLeaves}

@@ -3,8 +3,8 @@ use Rattle.judge.proofs.blocked.blocked_by.Statement.{statement}
 use Rattle.judge.proofs.blocked.blocked_by.Tie as tie
 use Prim.Native.Nat.{_-_}
 use native.Mathlib.Omega.{arith}
+use Rattle.matching.proofs.Firsts.{Unfound, first-starts, first-more, first-found, first-none}
 use Rattle.judge.specs.Blocked.{Blocks}
-use Rattle.judge.proofs.Firsts.{Unfound, first-starts, first-more, first-found, first-none}
 
 abbrev Inv-loop : tie.InvT-loop
 Inv-loop table count partner reach a b₀ b = Unfound (Blocks table partner reach a) count b

@@ -4,8 +4,8 @@ use Rattle.judge.proofs.blocked.blocks.Tie as tie
 use Prim.Native.Nat.{_≤_}
 use native.Mathlib.Omega.{arith}
 use borrow.Author.Needs.{needs}
-use Rattle.judge.specs.Matching.{partnerAt}
-use Rattle.judge.proofs.Matching.{partner-within}
+use Rattle.matching.specs.Matching.{partnerAt}
+use Rattle.matching.proofs.Matching.{partner-within}
 use Rattle.judge.proofs.Blocking.{told-blocks}
 
 mul-at : tie.Need-mul-at

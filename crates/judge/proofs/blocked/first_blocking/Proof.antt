@@ -3,8 +3,8 @@ use Rattle.judge.proofs.blocked.first_blocking.Statement.{statement}
 use Rattle.judge.proofs.blocked.first_blocking.Tie as tie
 use Prim.Native.Nat.{_-_}
 use native.Mathlib.Omega.{arith}
+use Rattle.matching.proofs.Firsts.{Unfound, first-starts, first-more, first-found, first-none}
 use Rattle.judge.specs.Blocked.{Blocking}
-use Rattle.judge.proofs.Firsts.{Unfound, first-starts, first-more, first-found, first-none}
 
 abbrev Inv-loop : tie.InvT-loop
 Inv-loop table count partner reach pattern a₀ a = Unfound (Blocking table count partner reach pattern) count a

@@ -8,7 +8,7 @@ use mathlib.Core.Logic.{⊎-elim}
 use lib.ListN.{length}
 use Rattle.reader.specs.Log.{maxRecords}
 use Rattle.history.specs.Table.{tabled}
-use Rattle.judge.proofs.Firsts.{Unfound, first-starts, first-more}
+use Rattle.matching.proofs.Firsts.{Unfound, first-starts, first-more}
 use Rattle.judge.proofs.Chaining.{CoveredEmpty, not-covered, first-chained, none-chained}
 
 abbrev Inv-loop : tie.InvT-loop

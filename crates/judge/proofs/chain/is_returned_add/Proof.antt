@@ -1,7 +1,7 @@
 -- `is_returned_add` meets its contract.
 use Rattle.history.specs.Table.{tabled}
+use Rattle.matching.proofs.Telling.{told-less}
 use Rattle.judge.specs.Chains.{ReturnedAdd}
-use Rattle.judge.proofs.Telling.{told-less}
 use borrow.Author.Needs.{needs}
 use Rattle.judge.proofs.chain.is_returned_add.Statement.{statement}
 use Rattle.judge.proofs.chain.is_returned_add.Tie as tie

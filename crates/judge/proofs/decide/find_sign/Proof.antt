@@ -1,7 +1,7 @@
 -- `find_sign` meets its contract.
 use native.Mathlib.Omega.{arith}
+use Rattle.matching.proofs.Firsts.{none-found}
 use Rattle.judge.proofs.Deciding.{signed-unknown, signed-twice, signed-early, signed-none, early-partnered}
-use Rattle.judge.proofs.Firsts.{none-found}
 use borrow.Author.Needs.{needs}
 use Rattle.judge.proofs.decide.find_sign.Statement.{statement}
 use Rattle.judge.proofs.decide.find_sign.Tie as tie
