@@ -1,13 +1,4 @@
-pub mod Adding
 pub mod Answering
-pub mod Blocking
-pub mod Chaining
 pub mod Deciding
-pub mod FalseEmpties
-pub mod Furthering
 pub mod Laws
-pub mod Lower
-pub mod Pairs
-pub mod Showing
-pub mod Signing
 pub mod Writing

@@ -4,14 +4,14 @@ ghost use Prim.Native.Nat.{_≤_, _<_};
 ghost use lib.ListN.{length, take};
 ghost use Rattle.reader.specs.Log.{maxRecords, readLog};
 ghost use Rattle.judge.specs.Judge.{Judges, Delivers};
-use crate::decide::Finding;
-use crate::decide::ORDER;
 use crate::decide::decide;
 use crate::sheet::HEADER;
 use crate::sheet::write_sheet;
 use history::operations::TABLE;
 use history::operations::tabulate;
 use matching::values::Numbers;
+use patterns::find::Finding;
+use patterns::find::ORDER;
 use reader::format::MAX_RECORDS;
 use reader::log::Checked;
 

@@ -1,7 +1,8 @@
 -- `decide` meets its contract.
 use native.Mathlib.Omega.{arith}
 use Rattle.matching.proofs.Storing.{new-cleared}
-use Rattle.judge.proofs.Deciding.{decided-order, reaches-right, single}
+use Rattle.patterns.proofs.Finding.{reaches-right, single}
+use Rattle.judge.proofs.Deciding.{decided-order, decided-pattern}
 use borrow.Author.Needs.{needs}
 use Rattle.judge.proofs.decide.decide.Statement.{statement}
 use Rattle.judge.proofs.decide.decide.Tie as tie
@@ -13,7 +14,7 @@ find-sign-requires : tie.Need-find-sign-requires
 find-sign-requires c κs = search needs
 
 returns : tie.Need-returns
-returns c = c .before .before .find-sign .ensures .found (omega (arith, c .if1 .taken))
+returns c = decided-pattern (c .before .before .find-sign .ensures .found (omega (arith, c .if1 .taken)))
 
 fill-reaches-requires : tie.Need-fill-reaches-requires
 fill-reaches-requires c κs = search needs
@@ -34,7 +35,7 @@ returns-2 : tie.Need-returns-2
 returns-2 c = decided-order (rw (c .before .placed .given .1) at (c .before .before .before .find-order .ensures))
 
 returns-3 : tie.Need-returns-3
-returns-3 c = c .find-cause .ensures
+returns-3 c = decided-pattern (c .find-cause .ensures)
 
 pub decide-spec : {M : Type 1} → statement M
 decide-spec =
