@@ -6,8 +6,8 @@ use mathlib.Core.List.{List}
 use lib.ListN.{length, take}
 use lib.Seq.{length-take-le}
 use borrow.Author.Tests.{lt-ltb, le-ltb, eq-eqb, ne-eqb}
+use Rattle.buffer.specs.Buffer.{bufferTooShort, written}
 use Rattle.reader.specs.Log.{readLog, checked}
-use Rattle.reader.specs.Buffer.{bufferTooShort, written}
 use Rattle.reader.specs.declared.log.Checked.{Checked}
 use Rattle.reader.specs.declared.log.Checked.the-variants as check
 use Rattle.reader.proofs.Laws.{readable-log, checked-refused}

@@ -7,7 +7,7 @@ use Rattle.reader.specs.Log.{maxRecords}
 use Rattle.history.specs.History.{History}
 use Rattle.history.specs.Sheet.{orderVerdict}
 use Rattle.violations.specs.Verdict.{Verdict}
-use Rattle.violations.specs.Search.{Found}
+use Rattle.violations.specs.Found.{Found}
 
 -- The first k numbers of the list are the operations that the verdict lists. An order is the one that the search finds.
 pub record Decided (h : History) (byte k : ℕ) (list : List ℕ) : Type 0 where

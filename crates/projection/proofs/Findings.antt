@@ -6,8 +6,8 @@ use mathlib.Core.Logic.{_⊎_, inl, inr}
 use mathlib.Core.List.{List, [], _∷_}
 use lib.ListN.{length, getD, take}
 use lib.Seq.{length-take-le}
+use Rattle.buffer.specs.Buffer.{written}
 use Rattle.reader.specs.Log.{maxRecords, refused, readLog, checked, encodeLog}
-use Rattle.reader.specs.Buffer.{written}
 use Rattle.reader.specs.declared.log.Checked.{Checked}
 use Rattle.reader.specs.declared.log.Checked.the-variants as check
 use Rattle.reader.proofs.Laws.{checked-refused}

@@ -11,7 +11,7 @@ use Rattle.record.specs.Choice.{if_then_else_}
 use Rattle.record.specs.Number.{bytesOf, Bytes}
 use Rattle.record.specs.Record.{encode}
 use Rattle.record.specs.declared.record.Record.{Record}
-use Rattle.reader.specs.Buffer.{written}
+use Rattle.buffer.specs.Buffer.{written}
 use Rattle.reader.specs.Log.{maxLength, isIn, encodeAll, readable, readLog, encodeLog, operations}
 use Rattle.reader.specs.Readable.{ReadableLog, Orderly}
 use Rattle.reader.proofs.Laws.{readable-log, readable-orderly, orderly-readable}

@@ -9,14 +9,14 @@ use lib.ListN.{length, drop}
 use borrow.Author.Tests.{lt-ltb, le-ltb}
 use Rattle.record.specs.Number.{bytesOf}
 use Rattle.record.specs.declared.record.Record.{Record}
-use Rattle.reader.specs.Buffer.{bufferTooShort, lacksRoom, written, put}
+use Rattle.buffer.specs.Buffer.{bufferTooShort, lacksRoom, written, put}
+use Rattle.buffer.proofs.Copying.{put-length, put-behind}
 use Rattle.reader.specs.Log.{logVersion, headerLength, readable, readLog, encodeAll, encodeLog}
 use Rattle.projection.specs.Outcome.{writing}
 use Rattle.projection.specs.Copies.{marked, Measured, RoomFor, Copied, Writes}
 use Rattle.projection.specs.declared.measure.Extent.{Extent}
 use Rattle.projection.specs.declared.write.Projected.{Projected}
 use Rattle.projection.specs.declared.write.Projected.the-variants.{Written, Refused}
-use Rattle.projection.proofs.Copying.{put-length, put-behind}
 use Rattle.projection.proofs.Sizes.{sizes-are, log-length}
 
 -- the header of a log of so many records

@@ -8,7 +8,7 @@ use lib.ListN.{length}
 use lib.Dec.{eqb}
 use Rattle.record.specs.Choice.{if_then_else_}
 use Rattle.record.specs.declared.record.Record.{Record}
-use Rattle.reader.specs.Buffer.{written, put}
+use Rattle.buffer.specs.Buffer.{written, put}
 use Rattle.reader.specs.Log.{headerLength, maxRecords, maxLength, readable, readLog, encodeAll, encodeLog}
 use Rattle.reader.specs.Readable.{recordOf, sizes}
 use Rattle.projection.specs.Projection.{keepRecords}

@@ -1,4 +1,3 @@
-pub mod Buffer
 pub mod Log
 pub mod Readable
 pub mod Feed

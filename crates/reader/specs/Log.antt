@@ -14,7 +14,7 @@ use Rattle.record.specs.declared.record.Event.the-variants.{CallAdd, CallRemove
 use Rattle.record.specs.declared.record.Record.{Record}
 use Rattle.record.specs.declared.record.Decoded.{Decoded}
 use Rattle.record.specs.declared.record.Decoded.the-variants.{Found, Malformed}
-use Rattle.reader.specs.Buffer.{put}
+use Rattle.buffer.specs.Buffer.{put}
 use Rattle.reader.specs.declared.log.Checked.{Checked}
 use Rattle.reader.specs.declared.log.Checked.the-variants.{Readable, Refused}
 

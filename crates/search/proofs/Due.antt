@@ -6,7 +6,7 @@ use mathlib.Core.Logic.{_⊎_, inl, inr}
 use mathlib.Core.List.{List}
 use Rattle.history.specs.History.{History, Returned, add}
 use Rattle.violations.specs.Violations.{Is, Reaches, removed, never, Removed}
-use Rattle.violations.specs.Search.{Due}
+use Rattle.violations.specs.Found.{Due}
 use Rattle.matching.specs.Held.{Held}
 use Rattle.matching.specs.Reaches.{reachAt, Reaching}
 use Rattle.search.proofs.Fitting.{Kinds, is-add, is-remove, is-empty, kinds}

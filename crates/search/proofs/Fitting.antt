@@ -11,7 +11,7 @@ use lib.Seq.{slice, slice-empty, slice-cons, length-slice}
 use Rattle.history.specs.History.{History, add, remove, emptyRemove}
 use Rattle.history.specs.Linearization.{Listed}
 use Rattle.violations.specs.Violations.{Is, Removed, Reaches, removed, never}
-use Rattle.violations.specs.Search.{Due, Left, Enabled, Safe, Serves, enqueues, dequeues, meets-empty, Placeable}
+use Rattle.violations.specs.Found.{Due, Left, Enabled, Safe, Serves, enqueues, dequeues, meets-empty, Placeable}
 use Rattle.violations.proofs.Operations.{removed?}
 use Rattle.violations.proofs.Progress.{left?}
 use Rattle.violations.proofs.Lists.{listed-here}

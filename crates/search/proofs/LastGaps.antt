@@ -11,7 +11,8 @@ use borrow.Author.Tests.{eq-eqb, ne-eqb}
 use Rattle.history.specs.History.{History, add, remove, emptyRemove}
 use Rattle.history.specs.Table.{kindAt, tabled}
 use Rattle.violations.specs.Violations.{Is, RemoveOf, Removed, Gap, Covered, AllCovered}
-use Rattle.violations.specs.Search.{Single, LastGap}
+use Rattle.violations.specs.Search.{Single}
+use Rattle.violations.specs.Found.{LastGap}
 use Rattle.matching.specs.Held.{Held}
 use Rattle.matching.specs.Matching.{partnerAt, Partners}
 use Rattle.matching.specs.Reaches.{reachAt, Reaching}

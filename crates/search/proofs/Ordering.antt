@@ -7,7 +7,8 @@ use lib.ListN.{take}
 use Rattle.history.specs.History.{add, emptyRemove}
 use Rattle.history.specs.Table.{tabled}
 use Rattle.violations.specs.Violations.{Is, Removed, falseEmpty, NoViolation}
-use Rattle.violations.specs.Search.{Single, Sound, LastGap, Found}
+use Rattle.violations.specs.Search.{Single, Sound}
+use Rattle.violations.specs.Found.{LastGap, Found}
 use Rattle.violations.proofs.Laws.{excluded, tables-fit}
 use Rattle.violations.proofs.Chains.{false-empty}
 use Rattle.matching.specs.Held.{Held}

@@ -12,7 +12,8 @@ use Rattle.history.specs.History.{History}
 use Rattle.history.specs.Linearization.{placed, Listed}
 use Rattle.history.proofs.Counting.{different-are-few}
 use Rattle.violations.specs.Verdict.{JudgedLinearization}
-use Rattle.violations.specs.Search.{Single, Sound, Left, Placeable, Searched, Continues, ends, places}
+use Rattle.violations.specs.Search.{Single, Sound, Searched}
+use Rattle.violations.specs.Found.{Left, Placeable, Continues, ends, places}
 use Rattle.violations.proofs.Laws.{search-starts, search-places, search-ends, search-goes-on}
 use Rattle.violations.proofs.Constructing.{search-few}
 use Rattle.violations.proofs.Lists.{snoc, listed-old, listed-new, listed-either, each-snoc, pairs-snoc}

@@ -7,7 +7,7 @@ use Rattle.reader.specs.Log.{maxRecords}
 use Rattle.history.specs.History.{History}
 use Rattle.violations.specs.Violations.{NoViolation}
 use Rattle.violations.specs.Verdict.{JudgedLinearization}
-use Rattle.violations.specs.Search.{Found}
+use Rattle.violations.specs.Found.{Found}
 use Rattle.search.specs.declared.order.Ended.{Ended}
 use Rattle.search.specs.declared.order.Ended.the-variants.{Whole, Short}
 

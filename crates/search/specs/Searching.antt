@@ -11,7 +11,8 @@ use Rattle.history.specs.History.{History, add, remove, emptyRemove}
 use Rattle.history.specs.Linearization.{placed, Listed}
 use Rattle.violations.specs.Violations.{Is, RemoveOf, Removed}
 use Rattle.violations.specs.Verdict.{JudgedLinearization}
-use Rattle.violations.specs.Search.{Single, Sound, Left, Searched, Continues}
+use Rattle.violations.specs.Search.{Single, Sound, Searched}
+use Rattle.violations.specs.Found.{Left, Continues}
 use Rattle.matching.specs.Answers.{First}
 use Rattle.matching.specs.Reaches.{reachAt, Reaching}
 use Rattle.search.specs.Bounds.{limitAt}

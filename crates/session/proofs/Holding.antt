@@ -14,7 +14,7 @@ use Rattle.record.specs.Record.{encode, sizeOf, Small}
 use Rattle.record.specs.declared.record.Record.{Record}
 use Rattle.record.proofs.Numbers.{number-there}
 use Rattle.record.proofs.Laws.{encode-length}
-use Rattle.reader.specs.Buffer.{bufferTooShort, put}
+use Rattle.buffer.specs.Buffer.{bufferTooShort, put}
 use Rattle.reader.specs.Log.{logVersion, maxRecords, countField, withCount, fault, readable, refused, readPartial, readLog, encodeAll, encodeLog}
 use Rattle.reader.specs.Feed.{faultBehind, extended}
 use Rattle.reader.specs.Readable.{Writable}

@@ -11,7 +11,7 @@ use borrow.Author.Tests.{lt-ltb, le-ltb, eq-eqb, ne-eqb, ltb-false, leb-false, e
 use Rattle.record.specs.Choice.{if_then_else_}
 use Rattle.record.specs.Number.{bigEndian, bytesOf}
 use Rattle.record.specs.declared.record.Record.{Record}
-use Rattle.reader.specs.Buffer.{bufferTooShort, put}
+use Rattle.buffer.specs.Buffer.{bufferTooShort, put}
 use Rattle.reader.specs.Log.{logVersion, headerLength, maxRecords, countField, withCount, Reading, readable, refused, readPartial, readLog, checked}
 use Rattle.reader.specs.Feed.{faultBehind, extended}
 use Rattle.reader.specs.declared.log.Extension.{Extension}

@@ -12,7 +12,7 @@ use borrow.Author.Tests.{eqb-false}
 use Rattle.record.specs.Choice.{if_then_else_}
 use Rattle.record.specs.Number.{Bytes}
 use Rattle.record.specs.declared.record.Record.{Record}
-use Rattle.reader.specs.Buffer.{bufferTooShort, lacksRoom}
+use Rattle.buffer.specs.Buffer.{bufferTooShort, lacksRoom}
 use Rattle.reader.specs.Log.{maxRecords, maxLength, Reading, readable, refused, readLog, checked, operations, encodeLog}
 use Rattle.reader.specs.Readable.{Within}
 use Rattle.reader.specs.declared.log.Checked.the-variants as check

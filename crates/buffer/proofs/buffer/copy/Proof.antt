@@ -1,10 +1,10 @@
 -- `copy` meets its contract. The loop's invariant is `Copying`: the first i bytes are copied.
-use Rattle.projection.proofs.write.copy.Statement.{statement}
-use Rattle.projection.proofs.write.copy.Tie as tie
+use Rattle.buffer.proofs.buffer.copy.Statement.{statement}
+use Rattle.buffer.proofs.buffer.copy.Tie as tie
 use Prim.Native.Nat.{_-_}
 use native.Mathlib.Omega.{arith}
 use lib.ListN.{length}
-use Rattle.projection.proofs.Copying.{Copying, copying-starts, copying-next, copying-ends}
+use Rattle.buffer.proofs.Copying.{Copying, copying-starts, copying-next, copying-ends}
 
 abbrev Inv-loop : tie.InvT-loop
 Inv-loop bytes at out₀ i₀ out i = Copying bytes at out₀ out i

@@ -1,15 +1,13 @@
 -- Bytes put into a buffer, and behind others.
-use Prim.Native.Nat.{ℕ, _+_, _/_, _%_, _≤_, _<_}
+use Prim.Native.Nat.{ℕ, _+_, _≤_, _<_}
 use native.Mathlib.Omega.{arith}
 use native.Mathlib.Numerals.{add-one}
 use native.Mathlib.Nat.{add-assoc}
 use mathlib.Core.Path.{_≡_, refl, _∙_}
-use mathlib.Core.List.{List, [], _∷_, _++_, append-assoc}
+use mathlib.Core.List.{List, [], _++_, append-assoc}
 use lib.ListN.{length, getD, set, take, drop, length-set, length-append, length-drop}
-use lib.Seq.{sets-eq, paste, paste-zero, paste-suc, take-length, take-at, drop-at, drop-drop, length-take-le}
-use Rattle.record.specs.Number.{bytesOf}
-use Rattle.reader.specs.Log.{logVersion, headerLength, maxRecords}
-use Rattle.reader.specs.Buffer.{put}
+use lib.Seq.{paste, paste-zero, paste-suc, take-length, take-at, drop-at, drop-drop, length-take-le}
+use Rattle.buffer.specs.Buffer.{put}
 
 -- The loop of `copy` has come to byte i.
 pub record Copying (bytes : List ℕ) (at : ℕ) (old out : List ℕ) (i : ℕ) : Type 0 where
@@ -58,9 +56,3 @@ put-behind at front bytes out h =
       add-assoc at (length front) (length bytes),
     )
     refl
-
--- the header, byte by byte
-pub header-put : (count : ℕ) (out : List ℕ) → count ≤ maxRecords → headerLength ≤ length out
-    → set (set (set out 0 logVersion) 1 (count / 256)) 2 (count % 256) ≡ put 0 (logVersion ∷ bytesOf 2 count) out
-unfolding bytesOf
-header-put count out few h = let small : count / 256 % 256 ≡ count / 256 = omega arith in rw small (sets-eq (logVersion ∷ count / 256 ∷ count % 256 ∷ []) out 0 h)
