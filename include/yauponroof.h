@@ -89,14 +89,14 @@
  * log.
  *
  * A session fits its buffer if the stage is YR_OPEN or YR_CLOSED, no more bytes are used than the
- * buffer has, and these are a readable log, or in an open session are so but for 10. All functions
- * but yr_begin test that at every call and so read the whole log held: a feed takes about as long as
- * yr_check on it. The buffer may be lent with another length at each call, and may even be another
+ * buffer has, and these are a readable log, or in an open session are so but for 10. All session
+ * functions but yr_begin test that at every call and so read the whole log held: a feed takes about
+ * as long as yr_check on it. The buffer may be lent with another length at each call, and may even be another
  * one, as long as it begins with the used bytes.
  *
  * Rules for every function
  * ------------------------
- * - Pointers are never NULL, not even with length 0.
+ * - Pointers must not be NULL, not even with length 0.
  * - No function reads or writes outside the bytes that are lent to it. An output buffer overlaps no
  *   input, and a session overlaps no buffer.
  * - No function uses the heap or a global variable, or keeps a pointer it was given. Any number of
@@ -180,8 +180,8 @@ typedef struct yr_session {
  */
 enum yr_refusal {
     YR_REFUSAL_BYTES = 1,            /* fewer than 3 bytes; the bytes end before or inside a record;
-                                        bytes are left behind record n (index n); of a record that
-                                        is fed: not exactly one record */
+                                        bytes are left after the last record (index n); of a
+                                        record that is fed: not exactly one record */
     YR_REFUSAL_VERSION = 2,          /* the version is not 1 */
     YR_REFUSAL_RECORDS = 3,          /* n is above YR_MAX_RECORDS */
     YR_REFUSAL_KIND = 4,             /* unknown kind */
@@ -315,7 +315,7 @@ yr_answer yr_judge(const uint8_t *log, size_t log_len, uint8_t *sheet, size_t sh
  *
  * An accepted call writes the bytes of the excerpt and leaves those behind them as they were; a
  * refused one leaves all as they were. The log is never written to. Less than 64 KiB of stack is
- * used (54.6 KB measured).
+ * used (54.7 KB measured).
  */
 yr_answer yr_excerpt(const uint8_t *log, size_t log_len, uint8_t *out, size_t out_len);
 

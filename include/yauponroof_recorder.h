@@ -39,23 +39,25 @@
  *
  * Or the verdict is on another history than the one that ran:
  *
- * - A call that is recorded after the operation began, or a return before it ended, lets the
- *   operation precede others that it overlapped. A correct queue may then be given a pattern. So
- *   record the call before the operation begins, and the return after it has ended. That can only
- *   make the operation longer: a correct queue still has an order, though a fault may be missed.
+ * - A call that is recorded after the operation began, or a return before it ended, makes the
+ *   operation look shorter than it was: operations that overlapped it then seem to come before or
+ *   after it, and a correct queue may be given a pattern. So record the call before the operation
+ *   begins, and the return after it has ended. That can only make the operation look longer: a
+ *   correct queue still has an order, though a fault may be missed.
  * - An operation that is not recorded changes what the log says of the others. Without its add, a
  *   value that is removed gives pattern 1. Without its remove, a value counts as still there, and a
  *   correct queue may be given pattern 4 or 6. Without both, the faults of a value are missed. So
- *   record every operation from when the queue is empty on, and do not begin one whose call was not
+ *   record every operation, starting from an empty queue, and do not begin one whose call was not
  *   taken.
  *
  * Several threads
  * ---------------
  * A recorder and its buffer are for one thread at a time. With a lock around the recorder the log
  * would still be right, but the clients would wait for each other between their operations, which
- * hides faults. Rather let each client number its calls and returns from one atomic counter and keep
- * them to itself, and after the run append those of all clients in the order of their numbers, with
- * the numbers as ticks. 512 operations that all return always fit into YR_LOG_MAX bytes.
+ * hides faults. Rather let each client number its calls and returns from one atomic counter, with
+ * sequentially consistent increments, and keep them to itself; after the run append those of all
+ * clients in the order of their numbers, with the numbers as ticks. 512 operations that all return
+ * always fit into YR_LOG_MAX bytes.
  */
 
 #ifndef YAUPONROOF_RECORDER_H
@@ -127,8 +129,8 @@ static inline size_t yr_recorder_length(const yr_recorder *r)
 }
 
 /*
- * Whether a call would be taken now, be it of add or of remove: both need two records of 20 bytes
- * together, for the call and the return. 0 means that the log is full. It then stays so, unless a
+ * Whether a call would be taken now, be it of add or of remove: both need two records, 20 bytes
+ * in all, for the call and the return. 0 means that the log is full. It then stays so, unless a
  * remove that is open returns empty, which needs 4 bytes less than were kept for it.
  */
 static inline int yr_recorder_takes_call(const yr_recorder *r)

@@ -7,10 +7,10 @@ use mathlib.Core.Path.{_≡_, sym, ap, _∙_}
 use mathlib.Core.Logic.{_↔_, Iff·rfl}
 use mathlib.Core.List.{List}
 use lib.ListN.{length, take}
+use Rattle.record.specs.declared.record.Event.{Event}
+use Rattle.record.specs.declared.record.Record.{Record}
 use Rattle.reader.specs.Log.{isCall, operations, encodeLog}
 use Rattle.reader.specs.Readable.{recordOf, PartialLog, Orderly}
-use Rattle.reader.specs.declared.record.Event.{Event}
-use Rattle.reader.specs.declared.record.Record.{Record}
 use Rattle.reader.proofs.Laws.{readable-log, orderly-readable}
 use Rattle.history.specs.History.{Returned, Precedes}
 use Rattle.history.specs.Operations.{callIndex, returnIndex, kindBy, valueBy, historyOf}

@@ -7,18 +7,18 @@ use mathlib.Core.Logic.{_⊎_, inl, inr}
 use mathlib.Core.List.{List, _++_}
 use lib.ListN.{length, take, drop}
 use lib.Seq.{take-append-seam}
-use Rattle.reader.specs.Choice.{if_then_else_}
-use Rattle.reader.specs.Buffer.{bufferTooShort, lacksRoom, written}
+use Rattle.record.specs.Choice.{if_then_else_}
+use Rattle.record.specs.declared.record.Record.{Record}
+use Rattle.buffer.specs.Buffer.{bufferTooShort, lacksRoom, written}
 use Rattle.reader.specs.Log.{maxRecords, Reading, readable, refused, readLog, operations, encodeLog}
 use Rattle.reader.specs.Readable.{Within}
-use Rattle.reader.specs.declared.record.Record.{Record}
 use Rattle.reader.proofs.Laws.{within, few-operations}
 use Rattle.history.specs.Operations.{historyOf}
 use Rattle.history.specs.Sheet.{orderVerdict, sheetOf, listedOn}
 use Rattle.history.proofs.Sheets.{sheet-lists}
 use Rattle.violations.specs.Violations.{NoViolation}
 use Rattle.violations.specs.Verdict as violations
-use Rattle.violations.specs.Search.{Found}
+use Rattle.violations.specs.Found.{Found}
 use Rattle.violations.proofs.Laws.{SomeViolation, first-violation, first-violation-one, verdict-known}
 use Rattle.judge.specs.Judge.{sheetBytes, Accepted, order, pattern, Judges, judged, turned-down}
 use Rattle.judge.specs.declared.judge.Verdict.{Verdict}

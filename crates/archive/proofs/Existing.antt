@@ -6,16 +6,16 @@ use mathlib.Core.Logic.{_⊎_, inl, inr}
 use mathlib.Core.List.{List}
 use lib.ListN.{length}
 use borrow.Author.Tests.{le-ltb, ne-eqb}
-use Rattle.reader.specs.Buffer.{written}
+use Rattle.record.specs.declared.record.Record.{Record}
+use Rattle.buffer.specs.Buffer.{written}
 use Rattle.reader.specs.Log.{readable, readLog, encodeLog}
-use Rattle.reader.specs.declared.record.Record.{Record}
 use Rattle.reader.proofs.Laws.{readable-log}
 use Rattle.history.specs.Operations.{historyOf}
 use Rattle.history.specs.Sheet.{orderVerdict, sheetOf}
 use Rattle.history.proofs.Laws.{history-lawful}
 use Rattle.violations.specs.Violations.{NoViolation}
 use Rattle.violations.specs.Verdict as violations
-use Rattle.violations.specs.Search.{Found}
+use Rattle.violations.specs.Found.{Found}
 use Rattle.violations.proofs.Laws.{SomeViolation, first-violation, first-violation-one, occurs-numbered, verdict}
 use Rattle.judge.specs.Judge.{verdictOf, Delivers, Judges, judged}
 use Rattle.judge.specs.declared.judge.Verdict.the-variants.{Pattern}

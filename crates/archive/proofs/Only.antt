@@ -5,8 +5,8 @@ use native.Mathlib.Decide.{ℕ-discrete}
 use mathlib.Core.Path.{_≡_, refl, sym, ap, _∙_}
 use mathlib.Core.Logic.{_⊎_, inl, inr}
 use mathlib.Core.List.{List, []}
+use Rattle.record.specs.declared.record.Record.{Record}
 use Rattle.reader.specs.Log.{readable, readLog, encodeLog}
-use Rattle.reader.specs.declared.record.Record.{Record}
 use Rattle.reader.proofs.Laws.{readable-log}
 use Rattle.history.specs.History.{Lawful}
 use Rattle.history.specs.Operations.{historyOf}

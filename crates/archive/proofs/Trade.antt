@@ -6,10 +6,11 @@ use native.Mathlib.Decide.{decLt}
 use mathlib.Core.Path.{_≡_, refl, sym, ap, _∙_}
 use mathlib.Core.List.{List, [], _∷_}
 use lib.ListN.{length}
+use Rattle.record.specs.Record.{valueIn}
+use Rattle.record.specs.declared.record.Event.the-variants.{CallAdd}
+use Rattle.record.specs.declared.record.Record.{Record}
 use Rattle.reader.specs.Log.{isCall}
-use Rattle.reader.specs.Readable.{recordOf, asks, leaves, valueIn, Next, Orderly}
-use Rattle.reader.specs.declared.record.Event.the-variants.{CallAdd}
-use Rattle.reader.specs.declared.record.Record.{Record}
+use Rattle.reader.specs.Readable.{recordOf, asks, leaves, Next, Orderly}
 use Rattle.history.proofs.Events.{turns-change}
 use Rattle.archive.specs.Trade.{withTick, traded, Tradable}
 use Rattle.archive.proofs.Exchange.{exchange, exchange-low, exchange-high, exchange-back, exchange-keeps, exchange-below}

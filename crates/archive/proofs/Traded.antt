@@ -5,11 +5,11 @@ use native.Mathlib.Omega.{arith}
 use mathlib.Core.Path.{_≡_, refl, sym, ap, _∙_}
 use mathlib.Core.List.{List, [], _∷_, _++_, append-assoc}
 use lib.ListN.{length}
-use Rattle.reader.specs.Number.{bytesOf}
-use Rattle.reader.specs.Record.{encode}
+use Rattle.record.specs.Number.{bytesOf, Bytes}
+use Rattle.record.specs.Record.{encode}
+use Rattle.record.specs.declared.record.Record.{Record}
 use Rattle.reader.specs.Log.{logVersion, readable, readLog, encodeAll, encodeLog}
-use Rattle.reader.specs.declared.record.Record.{Record}
-use Rattle.reader.specs.Readable.{Bytes, Orderly}
+use Rattle.reader.specs.Readable.{Orderly}
 use Rattle.reader.proofs.Laws.{readable-log, readable-orderly, orderly-readable}
 use Rattle.history.specs.Operations.{historyOf}
 use Rattle.history.proofs.Laws.{history-lawful}

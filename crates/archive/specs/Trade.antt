@@ -4,9 +4,9 @@ use Prim.Native.Nat.{ℕ, zero, suc, _+_, _<_}
 use mathlib.Core.Path.{_≡_}
 use mathlib.Core.List.{List, [], _∷_}
 use lib.ListN.{length}
+use Rattle.record.specs.declared.record.Record.{Record}
 use Rattle.reader.specs.Log.{readable, readLog, isCall, encodeLog}
 use Rattle.reader.specs.Readable.{recordOf}
-use Rattle.reader.specs.declared.record.Record.{Record}
 
 -- a record with another tick
 abbrev pub withTick : ℕ → Record → Record

@@ -8,7 +8,7 @@ use mathlib.Core.List.{List}
 use lib.ListN.{length}
 use lib.Dec.{ltb}
 use borrow.Author.Tests.{lt-ltb, le-ltb}
-use Rattle.reader.specs.Choice.{if_then_else_}
+use Rattle.record.specs.Choice.{if_then_else_}
 use Rattle.reader.proofs.Search.{Lowest, None, lowest}
 use Rattle.history.specs.History.{History}
 use Rattle.history.specs.Linearization.{placed, Linearization}

@@ -2,11 +2,11 @@
 use Prim.Native.Nat.{_+_, _*_, _≤_}
 use native.Mathlib.Omega.{arith}
 use mathlib.Core.Path.{_≡_, refl}
+use Rattle.record.specs.declared.record.Removed.{Removed}
+use Rattle.record.specs.declared.record.Event.{Event}
+use Rattle.record.specs.declared.record.Event.the-variants.{CallAdd, CallRemove, ReturnAdd, ReturnRemove}
 use Rattle.reader.specs.Log.{isCall}
 use Rattle.reader.specs.Readable.{asks, leaves}
-use Rattle.reader.specs.declared.record.Removed.{Removed}
-use Rattle.reader.specs.declared.record.Event.{Event}
-use Rattle.reader.specs.declared.record.Event.the-variants.{CallAdd, CallRemove, ReturnAdd, ReturnRemove}
 
 -- what a call leaves pending is not nothing, and only a call leaves something
 pub leaves-call : (e : Event) → isCall e ≡ 1 → leaves e ≡ 0 → ⊥

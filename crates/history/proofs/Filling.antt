@@ -7,10 +7,10 @@ use mathlib.Core.List.{List}
 use lib.ListN.{length, take, length-set, List·getD-eq-default, replicate}
 use lib.Seq.{take-length}
 use borrow.Author.Tests.{lt-ltb, le-ltb}
+use Rattle.record.specs.declared.record.Event.the-variants.{CallRemove}
+use Rattle.record.specs.declared.record.Record.{Record}
 use Rattle.reader.specs.Log.{maxRecords, isCall, operations}
 use Rattle.reader.specs.Readable.{recordOf, asks, leaves, Next, ReadableLog}
-use Rattle.reader.specs.declared.record.Event.the-variants.{CallRemove}
-use Rattle.reader.specs.declared.record.Record.{Record}
 use Rattle.reader.proofs.Laws.{called}
 use Rattle.history.specs.Operations.{callIndex, returnIndex, kindBy, valueBy, positionOf, returnPosition}
 use Rattle.history.specs.Callers.{clientAt, Begun, Latest}

@@ -6,13 +6,13 @@ use mathlib.Core.Path.{_≡_, refl, sym, ap, _∙_}
 use mathlib.Core.List.{List}
 use lib.ListN.{length}
 use borrow.Author.Tests.{lt-ltb, le-ltb}
+use Rattle.record.specs.declared.record.Removed.{Removed}
+use Rattle.record.specs.declared.record.Removed.the-variants.{Value, Empty}
+use Rattle.record.specs.declared.record.Event.{Event}
+use Rattle.record.specs.declared.record.Event.the-variants.{CallAdd, CallRemove, ReturnAdd, ReturnRemove}
+use Rattle.record.specs.declared.record.Record.{Record}
 use Rattle.reader.specs.Log.{isCall, operations}
 use Rattle.reader.specs.Readable.{recordOf, asks, leaves, ReadableLog}
-use Rattle.reader.specs.declared.record.Removed.{Removed}
-use Rattle.reader.specs.declared.record.Removed.the-variants.{Value, Empty}
-use Rattle.reader.specs.declared.record.Event.{Event}
-use Rattle.reader.specs.declared.record.Event.the-variants.{CallAdd, CallRemove, ReturnAdd, ReturnRemove}
-use Rattle.reader.specs.declared.record.Record.{Record}
 use Rattle.history.specs.History.{add, emptyRemove, Returned, Lawful}
 use Rattle.history.specs.Operations.{callIndex, returnIndex, positionOf, historyOf}
 use Rattle.history.proofs.Numbering.{Called, call-of, same-call, calls-rise, return-is-next, next-is-return, next-of-one}

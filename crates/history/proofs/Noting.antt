@@ -4,12 +4,13 @@ use native.Mathlib.Omega.{arith}
 use mathlib.Core.Path.{_≡_, refl, sym, ap, _∙_}
 use mathlib.Core.List.{List}
 use lib.ListN.{length}
+use Rattle.record.specs.Record.{valueIn}
+use Rattle.record.specs.declared.record.Removed.{Removed}
+use Rattle.record.specs.declared.record.Event.{Event}
+use Rattle.record.specs.declared.record.Event.the-variants.{CallAdd, CallRemove, ReturnAdd, ReturnRemove}
+use Rattle.record.specs.declared.record.Record.{Record}
 use Rattle.reader.specs.Log.{maxRecords, isCall}
-use Rattle.reader.specs.Readable.{recordOf, asks, leaves, valueIn, ReadableLog}
-use Rattle.reader.specs.declared.record.Removed.{Removed}
-use Rattle.reader.specs.declared.record.Event.{Event}
-use Rattle.reader.specs.declared.record.Event.the-variants.{CallAdd, CallRemove, ReturnAdd, ReturnRemove}
-use Rattle.reader.specs.declared.record.Record.{Record}
+use Rattle.reader.specs.Readable.{recordOf, asks, leaves, ReadableLog}
 use Rattle.history.specs.History.{add}
 use Rattle.history.specs.Operations.{callIndex, removeKind, kindBy, valueBy}
 use Rattle.history.specs.Callers.{Begun, Found}

@@ -7,9 +7,9 @@ use mathlib.Core.Logic.{_↔_}
 use mathlib.Core.List.{List}
 use lib.ListN.{length}
 use borrow.Author.Tests.{lt-ltb, le-ltb}
+use Rattle.record.specs.declared.record.Record.{Record}
 use Rattle.reader.specs.Log.{isCall}
 use Rattle.reader.specs.Readable.{recordOf, Next, PartialLog}
-use Rattle.reader.specs.declared.record.Record.{Record}
 use Rattle.history.specs.Operations.{positionOf, returnPosition}
 
 module _ {log : List ℕ} {records : List Record} (read : PartialLog log records) where

@@ -5,12 +5,12 @@ use mathlib.Core.Path.{_≡_, refl, sym, _∙_}
 use mathlib.Core.List.{List}
 use lib.ListN.{length, take, replicate}
 use lib.Seq.{length-take-le}
-use Rattle.reader.specs.Record.{decodeAt}
+use Rattle.record.specs.Record.{decodeAt}
+use Rattle.record.specs.declared.record.Record.{Record}
+use Rattle.record.specs.declared.record.Decoded.{Decoded}
+use Rattle.record.specs.declared.record.Decoded.the-variants.{Found, Malformed}
 use Rattle.reader.specs.Log.{headerLength, maxRecords, readLog, checked}
 use Rattle.reader.specs.Readable.{recordOf, sizes, offsetOf, ReadableLog}
-use Rattle.reader.specs.declared.record.Record.{Record}
-use Rattle.reader.specs.declared.record.Decoded.{Decoded}
-use Rattle.reader.specs.declared.record.Decoded.the-variants.{Found, Malformed}
 use Rattle.reader.specs.declared.log.Checked.{Checked}
 use Rattle.reader.specs.declared.log.Checked.the-variants.{Readable, Refused}
 use Rattle.reader.proofs.Laws.{readable-log, checked-readable, checked-refused, few-operations}

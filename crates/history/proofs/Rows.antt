@@ -5,8 +5,8 @@ use mathlib.Core.Path.{_≡_, refl}
 use mathlib.Core.Bool.{true, decide, decide-iff}
 use mathlib.Core.Logic.{Dec·and, Dec·not}
 use mathlib.Core.List.{List, [], _∷_, map}
-use Rattle.reader.specs.Number.{bigEndian, bytesOf}
-use Rattle.reader.specs.Record.{lengthOf, eventOf, encode, decodeAt}
+use Rattle.record.specs.Number.{bigEndian, bytesOf}
+use Rattle.record.specs.Record.{lengthOf, eventOf, encode, decodeAt}
 use Rattle.reader.specs.Log.{ofOthers, pendingCalls, pendingKind, earliestRemove, addedValues, isIn, eventFault, fault, scan, readPartial, operations, encodeAll, Reading, readable, readLog, encodeLog}
 use Rattle.history.specs.Each.{Each}
 use Rattle.history.specs.History.{History}

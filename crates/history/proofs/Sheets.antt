@@ -5,8 +5,8 @@ use mathlib.Core.Path.{_≡_, refl, sym, ap, _∙_}
 use mathlib.Core.List.{List, [], _∷_}
 use lib.ListN.{length, getD, drop}
 use lib.Seq.{drop-drop}
-use Rattle.reader.specs.Number.{bigEndian, bytesOf}
-use Rattle.reader.proofs.Numbers.{number-there}
+use Rattle.record.specs.Number.{bigEndian, bytesOf}
+use Rattle.record.proofs.Numbers.{number-there}
 use Rattle.history.specs.Sheet.{sheetHeader, numberBytes, sheetOf, listedField, numbersFrom, listedOn}
 
 -- two bytes for each number

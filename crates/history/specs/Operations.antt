@@ -4,13 +4,14 @@ use Prim.Native.Nat.{ℕ, suc, _+_, _-_}
 use mathlib.Core.List.{List, [], _∷_}
 use lib.ListN.{length, drop}
 use lib.Dec.{ltb, eqb}
-use Rattle.reader.specs.Choice.{if_then_else_}
+use Rattle.record.specs.Choice.{if_then_else_}
+use Rattle.record.specs.Record.{valueIn}
+use Rattle.record.specs.declared.record.Removed.the-variants.{Value, Empty}
+use Rattle.record.specs.declared.record.Event.{Event}
+use Rattle.record.specs.declared.record.Event.the-variants.{CallAdd, CallRemove, ReturnAdd, ReturnRemove}
+use Rattle.record.specs.declared.record.Record.{Record}
 use Rattle.reader.specs.Log.{isCall, operations}
-use Rattle.reader.specs.Readable.{recordOf, valueIn}
-use Rattle.reader.specs.declared.record.Removed.the-variants.{Value, Empty}
-use Rattle.reader.specs.declared.record.Event.{Event}
-use Rattle.reader.specs.declared.record.Event.the-variants.{CallAdd, CallRemove, ReturnAdd, ReturnRemove}
-use Rattle.reader.specs.declared.record.Record.{Record}
+use Rattle.reader.specs.Readable.{recordOf}
 use Rattle.history.specs.History.{History, add, remove, emptyRemove, noKind}
 
 -- the index of the call record of operation o

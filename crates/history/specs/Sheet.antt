@@ -3,7 +3,7 @@
 use Prim.Native.Nat.{ℕ, zero, suc, _+_}
 use mathlib.Core.List.{List, [], _∷_, _++_}
 use lib.ListN.{length}
-use Rattle.reader.specs.Number.{bigEndian, bytesOf}
+use Rattle.record.specs.Number.{bigEndian, bytesOf}
 
 abbrev pub sheetVersion : ℕ
 sheetVersion = 1

@@ -3,11 +3,11 @@ use Prim.Native.Nat.{ℕ, _+_, _*_, _≤_, _<_}
 use mathlib.Core.Path.{_≡_}
 use mathlib.Core.List.{List}
 use lib.ListN.{length, getD, take}
+use Rattle.record.specs.declared.record.Event.{Event}
+use Rattle.record.specs.declared.record.Event.the-variants.{CallRemove}
+use Rattle.record.specs.declared.record.Record.{Record}
 use Rattle.reader.specs.Log.{maxRecords, Reading, readable, refused, readLog, operations}
 use Rattle.reader.specs.Readable.{recordOf, ReadableLog}
-use Rattle.reader.specs.declared.record.Event.{Event}
-use Rattle.reader.specs.declared.record.Event.the-variants.{CallRemove}
-use Rattle.reader.specs.declared.record.Record.{Record}
 use Rattle.history.specs.Callers.{clientAt, linkAt, Linked, LeadsDown}
 use Rattle.history.specs.History.{History}
 use Rattle.history.specs.Operations.{callIndex, returnIndex, kindBy, valueBy, historyOf}

@@ -2,9 +2,9 @@
 ghost use mathlib.Core.Path.{_≡_};
 ghost use Prim.Native.Nat.{_<_};
 ghost use lib.ListN.{length};
+ghost use Rattle.record.specs.Record.{valueIn};
+ghost use Rattle.record.specs.declared.record.Event.the-variants.{ReturnRemove};
 ghost use Rattle.reader.specs.Log.{maxRecords, readLog};
-ghost use Rattle.reader.specs.Readable.{valueIn};
-ghost use Rattle.reader.specs.declared.record.Event.the-variants.{ReturnRemove};
 ghost use Rattle.history.specs.Operations.{removeKind};
 ghost use Rattle.history.specs.Table.{tableLength, Tabulated, Entered, Room, Noted, Whole};
 use crate::callers::Callers;
@@ -20,13 +20,13 @@ use crate::operations::Operations;
 use crate::operations::REMOVE;
 use crate::operations::RETURN;
 use crate::operations::VALUE;
-use reader::cursor::read_at;
 use reader::format::HEADER;
 use reader::format::MAX_RECORDS;
-use reader::record::Decoded;
-use reader::record::Event;
-use reader::record::Record;
-use reader::record::Removed;
+use record::cursor::read_at;
+use record::record::Decoded;
+use record::record::Event;
+use record::record::Record;
+use record::record::Removed;
 
 // The kind of a remove until its return is read.
 const NO_KIND: u32 = 0;

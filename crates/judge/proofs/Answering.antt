@@ -6,8 +6,8 @@ use mathlib.Core.List.{List}
 use lib.ListN.{length, take}
 use lib.Seq.{length-take-le}
 use borrow.Author.Tests.{lt-ltb, le-ltb, eq-eqb, ne-eqb}
+use Rattle.buffer.specs.Buffer.{bufferTooShort, written}
 use Rattle.reader.specs.Log.{readLog, checked}
-use Rattle.reader.specs.Buffer.{bufferTooShort, written}
 use Rattle.reader.specs.declared.log.Checked.{Checked}
 use Rattle.reader.specs.declared.log.Checked.the-variants as check
 use Rattle.reader.proofs.Laws.{readable-log, checked-refused}
@@ -19,7 +19,7 @@ use Rattle.history.proofs.Laws.{history-lawful}
 use Rattle.history.proofs.Sheets.{sheet-length}
 use Rattle.history.proofs.Tabulating.{Tabled}
 use Rattle.violations.proofs.Laws.{verdict-small, agree-lawful, agree-verdict, agree-found}
-use Rattle.judge.specs.Held.{Held}
+use Rattle.matching.specs.Held.{Held}
 use Rattle.judge.specs.Decision.{Decided}
 use Rattle.judge.specs.Judge.{Delivers, Judges, judged, turned-down}
 use Rattle.judge.specs.declared.judge.Verdict.{Verdict}

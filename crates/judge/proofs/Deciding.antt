@@ -1,188 +1,24 @@
--- What the steps of the decision find is the verdict on the history in the table.
-use Prim.Native.Nat.{ℕ, zero, suc, _+_, _-_, _≤_, _<_}
+-- An order that the search finds, and the first violation, are the verdict on the history in the table.
+use Prim.Native.Nat.{ℕ}
 use native.Mathlib.Omega.{arith}
-use mathlib.Core.Path.{_≡_, _∙_}
-use mathlib.Core.Logic.{inl, inr}
-use mathlib.Core.List.{List, [], _∷_}
-use lib.ListN.{length, take, replicate, length-replicate}
-use lib.Dec.{eqb}
-use lib.Seq.{sets, length-sets, sets-eq, take-append-seam}
-use Rattle.reader.specs.Choice.{if_then_else_}
-use Rattle.reader.specs.Log.{maxRecords}
-use Rattle.reader.proofs.Search.{None}
-use Rattle.history.specs.History.{History, add, emptyRemove}
+use mathlib.Core.Path.{_≡_}
+use mathlib.Core.List.{List}
+use Rattle.history.specs.History.{History}
 use Rattle.history.specs.Sheet.{orderVerdict}
-use Rattle.history.specs.Table.{tabled}
-use Rattle.history.proofs.Basics.{zeros}
-use Rattle.violations.specs.Violations.{Is, Removed, falseEmpty, NoViolation}
 use Rattle.violations.specs.Verdict.{FirstViolation, Verdict}
-use Rattle.violations.specs.Search.{Single, Sound, LastGap, Found}
-use Rattle.violations.proofs.Laws.{occurs-numbered, excluded, tables-match, tables-fit}
-use Rattle.violations.proofs.Chains.{false-empty}
-use Rattle.judge.specs.Held.{Held}
-use Rattle.judge.specs.Matching.{First, Cleared, Partners, Shows, unknown, twice, early, Again, partnerAt}
-use Rattle.judge.specs.Gaps.{reachAt, ReachTable, Uncovered}
-use Rattle.judge.specs.Bounds.{limitAt, LimitTable}
-use Rattle.judge.specs.Blocked.{Blocks, Blocking}
-use Rattle.judge.specs.Chains.{Reaching, FirstChained}
-use Rattle.judge.specs.Searching.{gapAt, Limits, Ends}
-use Rattle.judge.specs.Decision.{Decided, Clean, Unsigned, Signed, Ordered, InTurn, Paired}
-use Rattle.judge.specs.declared.search.Ended.{Ended}
-use Rattle.judge.specs.declared.search.Ended.the-variants.{Whole, Short}
-use Rattle.judge.proofs.Firsts.{none-found}
-use Rattle.judge.proofs.Signs.{unknown-first, twice-first, early-first, three-ruled-out, reaching}
-use Rattle.judge.proofs.Pairs.{stuck-first, overtaken-first, pairs-ruled-out}
-use Rattle.judge.proofs.FalseEmpties.{chained-first, chained-none}
-use Rattle.judge.proofs.Fitting.{Kinds, is-add, is-remove, is-empty, kinds}
-use Rattle.judge.proofs.LastGaps.{limit-add-removed, limit-other, last-gap}
+use Rattle.violations.proofs.Laws.{occurs-numbered}
+use Rattle.search.specs.Order.{OrderListed}
+use Rattle.patterns.specs.Finding.{PatternListed}
+use Rattle.judge.specs.Decision.{Decided}
 
--- a new table is cleared
-pub new-cleared : Cleared (replicate maxRecords 0)
-new-cleared = record { sized = length-replicate {A = ℕ} maxRecords 0; zero = zeros maxRecords }
-
--- a pattern whose operations are stored at the front of the list is decided
-listed-first : (listed list : List ℕ) → length listed ≤ length list → take (length listed) (sets list 0 listed) ≡ listed
-listed-first listed list fits = rw (sets-eq listed list 0 (omega arith)) (take-append-seam listed _)
+-- an order that the search finds is decided
+pub decided-order : {h : History} {k : ℕ} {list : List ℕ} → OrderListed h k list → Decided h orderVerdict k list
+decided-order order = record { sized = order .sized; within = order .within; verdict = Verdict.linearization (order .judged); chosen = λ e. order .found }
 
 -- a pattern is no order
 no-order : {h : History} {byte : ℕ} {listed : List ℕ} → FirstViolation h byte listed → {P : Type 0} → byte ≡ orderVerdict → P
 no-order first e = absurd (omega (arith, occurs-numbered (first .occurs)))
 
-pub decided : {h : History} {byte : ℕ} (listed list : List ℕ) → length list ≡ maxRecords → length listed ≤ maxRecords → FirstViolation h byte listed → Decided h byte (length listed) (sets list 0 listed)
-decided listed list sized few first = record {
-  sized = length-sets list 0 listed ∙ sized;
-  within = few;
-  verdict = rw (listed-first listed list (omega arith)) (Verdict.violation first);
-  chosen = no-order first;
-}
-
--- Patterns 1 to 3.
-module _ {count end : ℕ} {table partner : List ℕ} (held : Held (tabled count end table)) (partners : Partners table count partner) (list : List ℕ) (sized : length list ≡ maxRecords) where
-  abbrev h : History
-  h = tabled count end table
-
-  signed : {byte : ℕ} (listed : List ℕ) → 0 < byte → length listed ≤ maxRecords → FirstViolation h byte listed → Signed h table partner byte (length listed) (sets list 0 listed)
-  signed listed some few first = record { sized = length-sets list 0 listed ∙ sized; found = λ l. decided listed list sized few first; none = λ e. absurd (omega arith) }
-
-  pub signed-unknown : {r : ℕ} → First (Shows table partner 1) count r → r < count → Signed h table partner 1 1 (sets list 0 (r ∷ []))
-  signed-unknown {r} first l = signed (r ∷ []) (omega arith) (omega arith) (unknown-first held partners first l)
-
-  pub signed-twice : {r s : ℕ} → None (Shows table partner 1) count → First (Shows table partner 2) count r → r < count → First (Again table partner r) count s → Signed h table partner 2 2 (sets list 0 (r ∷ s ∷ []))
-  signed-twice {r} {s} known first l again = signed (r ∷ s ∷ []) (omega arith) (omega arith) (twice-first held partners known first l again .1)
-
-  pub signed-early : {r : ℕ} → None (Shows table partner 1) count → None (Shows table partner 2) count → First (Shows table partner 3) count r → r < count
-      → Signed h table partner 3 2 (sets list 0 (r ∷ (partnerAt partner r - 1) ∷ []))
-  signed-early {r} known single first l = signed (r ∷ (partnerAt partner r - 1) ∷ []) (omega arith) (omega arith) (early-first held partners known single first l)
-
-  pub signed-none : {r s t : ℕ} → First (Shows table partner 1) count r → count ≤ r → First (Shows table partner 2) count s → count ≤ s → First (Shows table partner 3) count t → count ≤ t
-      → Signed h table partner 0 0 list
-  signed-none u a v b w c = record {
-    sized = sized;
-    found = λ l. absurd (omega arith);
-    none = λ e. record { known = none-found u (omega (arith, u .within)); single = none-found v (omega (arith, v .within)); timely = none-found w (omega (arith, w .within)) };
-  }
-
--- a remove that shows pattern 3 has a partner
-pub early-partnered : {table partner : List ℕ} {r : ℕ} → Shows table partner 3 r → 1 ≤ partnerAt partner r
-early-partnered (unknown e k z) = absurd (omega arith)
-early-partnered (twice e k s d) = absurd (omega arith)
-early-partnered (early e k s l) = s
-
--- so has an add that shows pattern 5
-pub overtaken-partnered : {table partner reach : List ℕ} {count pattern a : ℕ} → InTurn table count partner reach pattern → (pattern ≡ 4 → ⊥) → Blocking table count partner reach pattern a → 1 ≤ partnerAt partner a
-overtaken-partnered (inl e) n blocking = absurd (n e)
-overtaken-partnered {partner = partner} {pattern = pattern} {a = a} (inr (e, unstuck)) n blocking = go (partnerAt partner a) (blocking .is)
-  where
-    go : (x : ℕ) → (if eqb x 0 then 4 else 5) ≡ pattern → 1 ≤ x
-    go zero f = absurd (omega arith)
-    go (suc x) f = omega arith
-
-module _ {count end : ℕ} {table partner : List ℕ} (held : Held (tabled count end table)) (partners : Partners table count partner) (unsigned : Unsigned table count partner) where
-  clean-three : Clean (tabled count end table) 4
-  clean-three = three-ruled-out held partners (unsigned .known) (unsigned .single) (unsigned .timely)
-
-  pub reaches-right : {reach : List ℕ} → ReachTable count end table partner reach → Reaching (tabled count end table) reach
-  reaches-right = reaching held partners (unsigned .known) (unsigned .single)
-
-  module _ {reach : List ℕ} (right : Reaching (tabled count end table) reach) where
-    pub single : Single (tabled count end table)
-    single = tables-match (right .reaches) (λ n listed l. clean-three n listed (omega arith)) .single
-
-    -- The search for an order.
-    module _ {gaps limit : List ℕ} (limited : LimitTable count end table partner gaps limit) where
-      pub limits-right : Limits (tabled count end table) limit
-      limits-right = record {
-        sized = limited .sized;
-        removed-adds = λ a r is out. limit-add-removed held partners limited single is out;
-        others = others;
-      }
-        where
-          others : (o : ℕ) → o < count → (tabled count end table .kind o ≡ emptyRemove → ⊥) → (Is (tabled count end table) add o → Removed (tabled count end table) o → ⊥) → limitAt limit o ≡ end + 1
-          others o known full never = go (kinds held o known)
-            where
-              go : Kinds (tabled count end table) o → limitAt limit o ≡ end + 1
-              go (is-add is) = limit-other held partners limited (inr (is, never is))
-              go (is-remove is) = limit-other held partners limited (inl is)
-              go (is-empty is) = absurd (full (is .kinds))
-
-      -- where no pattern occurs, the tables serve
-      module _ (uncovered : Uncovered (tabled count end table) reach end gaps) where
-        have-gaps : NoViolation (tabled count end table) → (e : ℕ) → Is (tabled count end table) emptyRemove e → (0 < limitAt limit e) × LastGap (tabled count end table) e (gapAt limit e)
-        have-gaps clean e is = last-gap held partners limited right uncovered is (λ covered. let (chain, found) = false-empty is covered in clean 6 (e ∷ chain) (falseEmpty found))
-
-        tables-serve : NoViolation (tabled count end table) → Sound (tabled count end table) (reachAt reach) (gapAt limit)
-        tables-serve clean = tables-fit (held .lawful) (right .reaches) (λ n listed l. clean n listed) (λ e is. have-gaps clean e is .1 .lies) (λ e is. have-gaps clean e is .1 .uncovered)
-
-        pub ordered : (list : List ℕ) (ended : Ended) → Ends (tabled count end table) reach limit ended list → Ordered (tabled count end table) ended list
-        ordered list (Whole k) (within, sized, judged, continues) =
-            let clean : NoViolation (tabled count end table) = λ n listed. excluded (held .lawful) (judged .legal) in
-            let found : Found (tabled count end table) (take k list) =
-            record { reach = reachAt reach; gap = gapAt limit; reaches = right .reaches; gaps = λ e is. have-gaps clean e is .1; continues = continues (λ e is. have-gaps clean e is .0) } in
-            record { sized = sized; within = within; verdict = Verdict.linearization judged; chosen = λ e. found }
-        ordered list Short (sized, unfit) = (sized, λ clean. unfit (tables-serve clean) (λ e is. have-gaps clean e is .0))
-
-    -- Patterns 4 and 5.
-    pub paired-none : (list : List ℕ) → length list ≡ maxRecords → {pattern a : ℕ} → First (Blocking table count partner reach pattern) count a → count ≤ a → Paired (tabled count end table) table partner reach pattern 0 list
-    paired-none list sized first l = record { sized = sized; found = λ some. absurd (omega arith); none = λ e. none-found first (omega (arith, first .within)) }
-
-    paired : (list : List ℕ) → length list ≡ maxRecords → {pattern : ℕ} (listed : List ℕ) → 0 < length listed → length listed ≤ maxRecords → FirstViolation (tabled count end table) pattern listed
-        → Paired (tabled count end table) table partner reach pattern (length listed) (sets list 0 listed)
-    paired list sized listed some few first = record { sized = length-sets list 0 listed ∙ sized; found = λ l. decided listed list sized few first; none = λ e. absurd (omega arith) }
-
-    pub paired-stuck : (list : List ℕ) → length list ≡ maxRecords → {a b : ℕ} → First (Blocking table count partner reach 4) count a → a < count → First (Blocks table partner reach a) count b
-        → Paired (tabled count end table) table partner reach 4 3 (sets list 0 (a ∷ b ∷ (partnerAt partner b - 1) ∷ []))
-    paired-stuck list sized {a} {b} first l blocked = paired list sized (a ∷ b ∷ (partnerAt partner b - 1) ∷ []) (omega arith) (omega arith) (stuck-first held partners right clean-three first l blocked .1)
-
-    pub paired-overtaken : (list : List ℕ) → length list ≡ maxRecords → {a b : ℕ} → None (Blocking table count partner reach 4) count → First (Blocking table count partner reach 5) count a → a < count
-        → First (Blocks table partner reach a) count b
-        → Paired (tabled count end table) table partner reach 5 4 (sets list 0 (a ∷ b ∷ (partnerAt partner b - 1) ∷ (partnerAt partner a - 1) ∷ []))
-    paired-overtaken list sized {a} {b} unstuck first l blocked =
-        paired list sized (a ∷ b ∷ (partnerAt partner b - 1) ∷ (partnerAt partner a - 1) ∷ []) (omega arith) (omega arith) (overtaken-first held partners right clean-three unstuck first l blocked .1)
-
-    -- by the pattern that was looked for
-    pub paired-stuck-at : (list : List ℕ) → length list ≡ maxRecords → {pattern a b : ℕ} → pattern ≡ 4 → First (Blocking table count partner reach pattern) count a → a < count → First (Blocks table partner reach a) count b
-        → Paired (tabled count end table) table partner reach pattern 3 (sets list 0 (a ∷ b ∷ (partnerAt partner b - 1) ∷ []))
-    paired-stuck-at list sized e first l blocked = rw e (paired-stuck list sized (rw e at first) l blocked)
-
-    pub paired-overtaken-at : (list : List ℕ) → length list ≡ maxRecords → {pattern a b : ℕ} → InTurn table count partner reach pattern → (pattern ≡ 4 → ⊥) → First (Blocking table count partner reach pattern) count a → a < count
-        → First (Blocks table partner reach a) count b → Paired (tabled count end table) table partner reach pattern 4 (sets list 0 (a ∷ b ∷ (partnerAt partner b - 1) ∷ (partnerAt partner a - 1) ∷ []))
-    paired-overtaken-at list sized (inl e) n first l blocked = absurd (n e)
-    paired-overtaken-at list sized (inr (e, unstuck)) n first l blocked = rw e (paired-overtaken list sized unstuck (rw e at first) l blocked)
-
-    -- an add that blocks another blocks one that is removed
-    pub blocked-known : {pattern a b : ℕ} → First (Blocking table count partner reach pattern) count a → a < count → First (Blocks table partner reach a) count b → (b < count) × (0 < partnerAt partner b)
-    blocked-known {b = b} first l blocked =
-        let (o, known, there) = first .holds l .some in
-        let not-above : count ≤ b → ⊥ = λ m. blocked .none-lower o (omega arith) there in
-        let below : b < count = omega arith in
-        (below, blocked .holds below .removed)
-
-    -- Pattern 6, where nothing else is left.
-    pub decided-last : {k : ℕ} {list : List ℕ} → None (Blocking table count partner reach 4) count → None (Blocking table count partner reach 5) count → (NoViolation (tabled count end table) → ⊥)
-        → FirstChained (tabled count end table) k list → Decided (tabled count end table) 6 k list
-    decided-last {k} stuck overtaken some first =
-        let clean = pairs-ruled-out held partners right clean-three stuck overtaken in
-        let unless : k ≡ 0 → ⊥ = λ e. some (chained-none clean first e) in
-        let listed : 0 < k = omega arith in
-        let sixth = chained-first clean first listed in
-        record { sized = first .sized; within = first .within; verdict = Verdict.violation sixth; chosen = no-order sixth }
+-- the first violation is decided
+pub decided-pattern : {h : History} {byte k : ℕ} {list : List ℕ} → PatternListed h byte k list → Decided h byte k list
+decided-pattern pattern = record { sized = pattern .sized; within = pattern .within; verdict = Verdict.violation (pattern .first); chosen = no-order (pattern .first) }

@@ -8,11 +8,11 @@ use lib.ListN.{length, take, drop}
 use lib.Dec.{eqb}
 use lib.Seq.{take-append-seam, drop-append-seam}
 use borrow.Author.Tests.{eqb-true, ltb-true}
-use Rattle.reader.specs.Choice.{if_then_else_}
-use Rattle.reader.specs.Buffer.{bufferTooShort, lacksRoom}
+use Rattle.record.specs.Choice.{if_then_else_}
+use Rattle.record.specs.declared.record.Record.{Record}
+use Rattle.buffer.specs.Buffer.{bufferTooShort, lacksRoom}
 use Rattle.reader.specs.Log.{maxRecords, Reading, readable, refused, readLog}
 use Rattle.reader.specs.Readable.{Within}
-use Rattle.reader.specs.declared.record.Record.{Record}
 use Rattle.reader.proofs.Laws.{readable-log, within}
 use Rattle.history.specs.History.{Lawful}
 use Rattle.history.specs.Operations.{historyOf}
@@ -20,7 +20,7 @@ use Rattle.history.specs.Sheet.{sheetHeader, orderVerdict, sheetOf}
 use Rattle.history.proofs.Laws.{history-lawful, returns-apart}
 use Rattle.history.proofs.Sheets.{sheet-length}
 use Rattle.violations.specs.Verdict as violations
-use Rattle.violations.specs.Search.{Found}
+use Rattle.violations.specs.Found.{Found}
 use Rattle.violations.proofs.Laws.{verdict-one, listed-one, listed-at-most}
 use Rattle.judge.specs.Judge.{verdictOf, byteOf, countOf, sheetBytes, Accepted, order, pattern, Delivers, Judgement, Judges, judged, turned-down}
 use Rattle.judge.specs.declared.judge.Verdict.{Verdict}

@@ -7,8 +7,8 @@ use mathlib.Core.List.{List, [], _∷_, _++_, append-assoc}
 use lib.ListN.{length, getD, set, take, drop, length-append, length-drop, length-set}
 use lib.Seq.{take-suc, take-append-seam, drop-append-add, drop-drop, sets, sets-eq, length-take-le}
 use borrow.Author.Tests.{le-ltb}
-use Rattle.reader.specs.Number.{bytesOf}
-use Rattle.reader.specs.Buffer.{written}
+use Rattle.record.specs.Number.{bytesOf}
+use Rattle.buffer.specs.Buffer.{written}
 use Rattle.history.specs.Sheet.{sheetVersion, sheetHeader, numberBytes, sheetOf}
 use Rattle.history.proofs.Sheets.{sheet-length}
 

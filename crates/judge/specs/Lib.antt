@@ -1,9 +1,2 @@
 pub mod Judge
-pub mod Held
-pub mod Matching
-pub mod Gaps
-pub mod Bounds
-pub mod Blocked
-pub mod Chains
-pub mod Searching
 pub mod Decision

@@ -4,166 +4,19 @@ ghost use mathlib.Core.Path.{_≡_};
 ghost use lib.ListN.{length};
 ghost use Rattle.reader.specs.Log.{maxRecords};
 ghost use Rattle.history.specs.Table.{tabled};
-ghost use Rattle.violations.specs.Violations.{NoViolation};
-ghost use Rattle.judge.specs.Held.{Held};
-ghost use Rattle.judge.specs.Matching.{Partners};
-ghost use Rattle.judge.specs.Chains.{Reaching};
-ghost use Rattle.judge.specs.Decision.{Decided, Unsigned, Signed, Ordered, InTurn, Paired};
-use crate::blocked::OVERTAKEN;
-use crate::blocked::STUCK;
-use crate::blocked::blocked_by;
-use crate::blocked::first_blocking;
-use crate::bounds::BOUNDS;
-use crate::bounds::fill_bounds;
-use crate::bounds::fill_limits;
-use crate::chain::false_empty;
-use crate::gaps::fill_gaps;
-use crate::gaps::fill_reaches;
-use crate::search::Ended;
-use crate::search::search;
-use crate::values::EARLY;
-use crate::values::Numbers;
-use crate::values::TWICE;
-use crate::values::UNKNOWN;
-use crate::values::first_showing;
-use crate::values::match_values;
-use crate::values::removed_again;
+ghost use Rattle.matching.specs.Held.{Held};
+ghost use Rattle.judge.specs.Decision.{Decided};
 use history::operations::Operations;
+use matching::reaches::fill_reaches;
+use matching::values::Numbers;
+use matching::values::match_values;
+use patterns::find::Finding;
+use patterns::find::ORDER;
+use patterns::find::find_cause;
+use patterns::find::find_sign;
 use reader::format::MAX_RECORDS;
-
-// The verdict byte, 0 for an order or the number of a pattern, and how many operations it lists.
-pub struct Finding {
-    pub verdict: u32,
-    pub listed: usize,
-}
-
-pub const ORDER: u32 = 0;
-
-const FALSE_EMPTY: u32 = 6;
-
-// One of the patterns 1 to 3, by the partners of the removes; verdict 0 if none of them occurs.
-fn find_sign(
-    table: &Operations,
-    count: usize,
-    end: usize,
-    partner: &Numbers,
-    list: &mut Numbers,
-) -> Finding
-    requires { ⌜ Held (tabled count end (now table)) × Partners (now table) count (now partner) × (length (now list) ≡ maxRecords) ⌝ }
-    ensures { λ f. ⌜ Signed (tabled count end (now (table .entry))) (now (table .entry)) (now (partner .entry)) (f .verdict) (f .listed) (now (list .exit)) ⌝ }
-{
-    let unknown = first_showing(table, count, partner, UNKNOWN);
-    if unknown < count {
-        list[0] = unknown as u32;
-        return Finding {
-            verdict: UNKNOWN,
-            listed: 1,
-        };
-    }
-    let twice = first_showing(table, count, partner, TWICE);
-    if twice < count {
-        list[0] = twice as u32;
-        list[1] = removed_again(table, count, partner, twice) as u32;
-        return Finding {
-            verdict: TWICE,
-            listed: 2,
-        };
-    }
-    let early = first_showing(table, count, partner, EARLY);
-    if early < count {
-        list[0] = early as u32;
-        list[1] = partner[early] - 1;
-        return Finding {
-            verdict: EARLY,
-            listed: 2,
-        };
-    }
-    Finding {
-        verdict: ORDER,
-        listed: 0,
-    }
-}
-
-// Searches for an order, by the limits that operations set.
-fn find_order(
-    table: &Operations,
-    count: usize,
-    end: usize,
-    partner: &Numbers,
-    reach: &Numbers,
-    list: &mut Numbers,
-) -> Ended
-    requires { ⌜ Held (tabled count end (now table)) × Partners (now table) count (now partner) × Unsigned (now table) count (now partner) × Reaching (tabled count end (now table)) (now reach) × (length (now list) ≡ maxRecords) ⌝ }
-    ensures { λ r. ⌜ Ordered (tabled count end (now (table .entry))) r (now (list .exit)) ⌝ }
-{
-    let mut gaps = [0u32; MAX_RECORDS];
-    fill_gaps(table, count, end, reach, &mut gaps);
-    let mut limit = [0u32; MAX_RECORDS];
-    fill_limits(table, count, end, partner, &gaps, &mut limit);
-    let mut bound = [0u32; BOUNDS];
-    fill_bounds(count, end, &limit, &mut bound);
-    search(table, count, end, reach, &limit, &bound, list)
-}
-
-// Pattern 4 or 5, the lowest pair of adds that shows it. Answers how many operations are listed, 0 if there is none.
-fn find_pair(
-    table: &Operations,
-    count: usize,
-    end: usize,
-    partner: &Numbers,
-    reach: &Numbers,
-    pattern: u32,
-    list: &mut Numbers,
-) -> usize
-    requires { ⌜ Held (tabled count end (now table)) × Partners (now table) count (now partner) × Unsigned (now table) count (now partner) × Reaching (tabled count end (now table)) (now reach) × InTurn (now table) count (now partner) (now reach) pattern × (length (now list) ≡ maxRecords) ⌝ }
-    ensures { λ k. ⌜ Paired (tabled count end (now (table .entry))) (now (table .entry)) (now (partner .entry)) (now (reach .entry)) pattern k (now (list .exit)) ⌝ }
-{
-    let a = first_blocking(table, count, partner, reach, pattern);
-    if count <= a {
-        return 0;
-    }
-    let b = blocked_by(table, count, partner, reach, a);
-    list[0] = a as u32;
-    list[1] = b as u32;
-    list[2] = partner[b] - 1;
-    if pattern == STUCK {
-        return 3;
-    }
-    list[3] = partner[a] - 1;
-    4
-}
-
-// One of the patterns 4 to 6, where the search for an order has stopped short.
-fn find_cause(
-    table: &Operations,
-    count: usize,
-    end: usize,
-    partner: &Numbers,
-    reach: &Numbers,
-    list: &mut Numbers,
-) -> Finding
-    requires { ⌜ Held (tabled count end (now table)) × Partners (now table) count (now partner) × Unsigned (now table) count (now partner) × Reaching (tabled count end (now table)) (now reach) × (NoViolation (tabled count end (now table)) → ⊥) × (length (now list) ≡ maxRecords) ⌝ }
-    ensures { λ f. ⌜ Decided (tabled count end (now (table .entry))) (f .verdict) (f .listed) (now (list .exit)) ⌝ }
-{
-    let stuck = find_pair(table, count, end, partner, reach, STUCK, list);
-    if 0 < stuck {
-        return Finding {
-            verdict: STUCK,
-            listed: stuck,
-        };
-    }
-    let overtaken = find_pair(table, count, end, partner, reach, OVERTAKEN, list);
-    if 0 < overtaken {
-        return Finding {
-            verdict: OVERTAKEN,
-            listed: overtaken,
-        };
-    }
-    Finding {
-        verdict: FALSE_EMPTY,
-        listed: false_empty(table, count, end, reach, list),
-    }
-}
+use search::order::Ended;
+use search::order::find_order;
 
 // The verdict on the history in the table, and the operations that it lists.
 pub fn decide(table: &Operations, count: usize, end: usize, list: &mut Numbers) -> Finding

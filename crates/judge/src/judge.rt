@@ -4,14 +4,15 @@ ghost use Prim.Native.Nat.{_≤_, _<_};
 ghost use lib.ListN.{length, take};
 ghost use Rattle.reader.specs.Log.{maxRecords, readLog};
 ghost use Rattle.judge.specs.Judge.{Judges, Delivers};
-use crate::decide::Finding;
-use crate::decide::ORDER;
 use crate::decide::decide;
 use crate::sheet::HEADER;
 use crate::sheet::write_sheet;
-use crate::values::Numbers;
+use buffer::buffer::BUFFER_TOO_SHORT;
 use history::operations::TABLE;
 use history::operations::tabulate;
+use matching::values::Numbers;
+use patterns::find::Finding;
+use patterns::find::ORDER;
 use reader::format::MAX_RECORDS;
 use reader::log::Checked;
 
@@ -22,9 +23,6 @@ pub enum Verdict {
     Pattern { number: u32, listed: usize },
     Refused { number: u32, index: usize },
 }
-
-// The number of the refusal of a sheet that is too short.
-pub const BUFFER_TOO_SHORT: u32 = 24;
 
 // Writes the sheet of what was found, if there is room for it.
 fn deliver(f: Finding, list: &Numbers, sheet: &mut [u8]) -> Verdict

@@ -1,11 +1,5 @@
 // The judge: a log goes in, and a legal order of its operations or the first pattern that rules every order out is written on a sheet.
 // This crate knows nothing of replay.
-mod blocked;
-mod bounds;
-mod chain;
 pub mod decide;
-mod gaps;
 pub mod judge;
-mod search;
 mod sheet;
-mod values;

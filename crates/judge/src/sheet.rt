@@ -2,10 +2,10 @@
 ghost use mathlib.Core.Path.{_≡_};
 ghost use Prim.Native.Nat.{_+_, _*_, _/_, _%_, _≤_, _<_};
 ghost use lib.ListN.{length, take, set};
+ghost use Rattle.buffer.specs.Buffer.{written};
 ghost use Rattle.reader.specs.Log.{maxRecords};
-ghost use Rattle.reader.specs.Buffer.{written};
 ghost use Rattle.history.specs.Sheet.{sheetHeader, sheetOf};
-use crate::values::Numbers;
+use matching::values::Numbers;
 
 const VERSION: u8 = 1;
 

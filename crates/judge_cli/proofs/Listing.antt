@@ -4,7 +4,7 @@ use native.Mathlib.Omega.{arith}
 use mathlib.Core.Path.{_≡_, refl, sym, ap, _∙_}
 use mathlib.Core.List.{List, [], _∷_, _++_, map, append-assoc, append-nil, map-append}
 use lib.ListN.{length, length-append}
-use Rattle.reader.specs.Number.{bigEndian}
+use Rattle.record.specs.Number.{bigEndian}
 use Rattle.history.specs.Sheet.{sheetHeader, numbersFrom}
 use Rattle.judge_cli.specs.Text.{space, decimal, spaced}
 use Rattle.judge_cli.specs.Writing.{listing}

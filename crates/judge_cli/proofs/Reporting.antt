@@ -9,11 +9,11 @@ use lib.ListN.{length, getD, drop, length-append}
 use lib.Seq.{drop-drop}
 use lib.Dec.{ltb}
 use borrow.Author.Tests.{le-ltb, eq-eqb, ne-eqb}
-use Rattle.reader.specs.Number.{bytesOf}
+use Rattle.record.specs.Number.{bytesOf}
+use Rattle.record.specs.declared.record.Record.{Record}
+use Rattle.record.proofs.Numbers.{number-there}
 use Rattle.reader.specs.Log.{maxRecords, Reading, readable, refused, readLog, operations}
 use Rattle.reader.specs.Readable.{Within}
-use Rattle.reader.specs.declared.record.Record.{Record}
-use Rattle.reader.proofs.Numbers.{number-there}
 use Rattle.reader.proofs.Laws.{readable-log, within, few-operations}
 use Rattle.history.specs.Operations.{historyOf}
 use Rattle.history.specs.Sheet.{sheetHeader, orderVerdict, numberBytes, sheetOf, numbersFrom}

@@ -13,7 +13,7 @@ use judge::judge::judge;
 use reader::format::MAX_RECORDS;
 use reader::log::Checked;
 use reader::log::check;
-use reader::number::be16;
+use record::number::be16;
 
 const HEADER: usize = 4;
 

@@ -4,13 +4,13 @@ use native.Mathlib.Omega.{arith}
 use mathlib.Core.Path.{_≡_, refl, sym, _∙_}
 use mathlib.Core.List.{List}
 use lib.ListN.{length}
-use Rattle.reader.specs.Cursor.{behind}
-use Rattle.reader.specs.Record.{decodeAt}
+use Rattle.record.specs.Cursor.{behind}
+use Rattle.record.specs.Record.{decodeAt, sizeOf}
+use Rattle.record.specs.declared.record.Record.{Record}
+use Rattle.record.specs.declared.record.Decoded.{Decoded}
+use Rattle.record.specs.declared.record.Decoded.the-variants.{Found, Malformed}
 use Rattle.reader.specs.Log.{headerLength, readable, readLog}
-use Rattle.reader.specs.Readable.{recordOf, sizeOf, sizes, offsetOf, ReadableLog}
-use Rattle.reader.specs.declared.record.Record.{Record}
-use Rattle.reader.specs.declared.record.Decoded.{Decoded}
-use Rattle.reader.specs.declared.record.Decoded.the-variants.{Found, Malformed}
+use Rattle.reader.specs.Readable.{recordOf, sizes, offsetOf, ReadableLog}
 use Rattle.reader.proofs.Laws.{readable-log}
 use Rattle.history.specs.Table.{Whole}
 use Rattle.projection.proofs.Sizes.{offset-more, offset-within}

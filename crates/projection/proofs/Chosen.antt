@@ -7,11 +7,11 @@ use mathlib.Core.Path.{_≡_, refl}
 use mathlib.Core.Bool.{Bool, true, false}
 use mathlib.Core.List.{List, [], _∷_, _++_, append-nil}
 use lib.ListN.{length, take, length-append}
-use Rattle.reader.specs.Choice.{if_then_else_}
-use Rattle.reader.specs.Record.{encode}
+use Rattle.record.specs.Choice.{if_then_else_}
+use Rattle.record.specs.Record.{encode, sizeOf}
+use Rattle.record.specs.declared.record.Record.{Record}
 use Rattle.reader.specs.Log.{encodeAll}
-use Rattle.reader.specs.Readable.{recordOf, sizeOf, sizes}
-use Rattle.reader.specs.declared.record.Record.{Record}
+use Rattle.reader.specs.Readable.{recordOf, sizes}
 use Rattle.projection.specs.Copies.{chosen}
 use Rattle.projection.proofs.Sizes.{sizes-append, encode-append}
 

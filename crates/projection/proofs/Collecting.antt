@@ -9,7 +9,7 @@ use lib.ListN.{length, getD, take}
 use lib.Dec.{eqb}
 use lib.Seq.{take-suc, take-all, length-take-le}
 use borrow.Author.Tests.{eq-eqb, ne-eqb}
-use Rattle.reader.specs.Choice.{if_then_else_}
+use Rattle.record.specs.Choice.{if_then_else_}
 use Rattle.reader.specs.Log.{maxRecords}
 use Rattle.reader.specs.Tables.{Pushed}
 use Rattle.history.specs.History.{History, emptyRemove}

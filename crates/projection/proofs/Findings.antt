@@ -6,8 +6,8 @@ use mathlib.Core.Logic.{_⊎_, inl, inr}
 use mathlib.Core.List.{List, [], _∷_}
 use lib.ListN.{length, getD, take}
 use lib.Seq.{length-take-le}
+use Rattle.buffer.specs.Buffer.{written}
 use Rattle.reader.specs.Log.{maxRecords, refused, readLog, checked, encodeLog}
-use Rattle.reader.specs.Buffer.{written}
 use Rattle.reader.specs.declared.log.Checked.{Checked}
 use Rattle.reader.specs.declared.log.Checked.the-variants as check
 use Rattle.reader.proofs.Laws.{checked-refused}
@@ -21,7 +21,7 @@ use Rattle.history.proofs.Laws.{history-lawful}
 use Rattle.violations.specs.Violations.{NoViolation}
 use Rattle.violations.specs.Verdict.{FirstViolation, Verdict}
 use Rattle.violations.proofs.Laws.{SomeViolation, first-violation, first-violation-one, occurs-known, excluded, zero-is-linearization, pattern-of, agree-lawful, agree-verdict}
-use Rattle.judge.specs.Held.{Held}
+use Rattle.matching.specs.Held.{Held}
 use Rattle.judge.specs.Decision.{Decided}
 use Rattle.projection.specs.Projection.{valuesOf, projection, excerpted}
 use Rattle.projection.specs.Outcome.{noPattern, writing, excerptAnswerOf, excerptLeavesOf, excerptAnswer, excerptLeaves}

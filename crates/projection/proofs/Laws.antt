@@ -7,13 +7,13 @@ use mathlib.Core.Bool.{Bool, true, false}
 use mathlib.Core.Logic.{_⊎_, inl, inr}
 use mathlib.Core.List.{List, [], _∷_, _++_}
 use lib.ListN.{length, length-append}
-use Rattle.reader.specs.Choice.{if_then_else_}
-use Rattle.reader.specs.Number.{bytesOf}
-use Rattle.reader.specs.Record.{encode}
-use Rattle.reader.specs.Buffer.{written}
+use Rattle.record.specs.Choice.{if_then_else_}
+use Rattle.record.specs.Number.{bytesOf, Bytes}
+use Rattle.record.specs.Record.{encode}
+use Rattle.record.specs.declared.record.Record.{Record}
+use Rattle.buffer.specs.Buffer.{written}
 use Rattle.reader.specs.Log.{maxLength, isIn, encodeAll, readable, readLog, encodeLog, operations}
-use Rattle.reader.specs.Readable.{Bytes, ReadableLog, Orderly}
-use Rattle.reader.specs.declared.record.Record.{Record}
+use Rattle.reader.specs.Readable.{ReadableLog, Orderly}
 use Rattle.reader.proofs.Laws.{readable-log, readable-orderly, orderly-readable}
 use Rattle.history.specs.Each.{Each}
 use Rattle.history.specs.Operations.{callIndex, historyOf}

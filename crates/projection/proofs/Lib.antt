@@ -3,7 +3,6 @@ pub mod Answering
 pub mod Choosing
 pub mod Chosen
 pub mod Collecting
-pub mod Copying
 pub mod Findings
 pub mod Laws
 pub mod Marking

@@ -5,12 +5,12 @@ use mathlib.Core.Path.{_≡_, ap, _∙_}
 use mathlib.Core.List.{List}
 use lib.ListN.{length, getD, set, length-set, replicate}
 use lib.Seq.{getD-set-same, getD-set-other}
-use Rattle.reader.specs.Record.{decodeAt}
+use Rattle.record.specs.Record.{decodeAt}
+use Rattle.record.specs.declared.record.Record.{Record}
+use Rattle.record.specs.declared.record.Decoded.{Decoded}
+use Rattle.record.specs.declared.record.Decoded.the-variants.{Found, Malformed}
 use Rattle.reader.specs.Log.{headerLength, maxRecords}
 use Rattle.reader.specs.Readable.{recordOf}
-use Rattle.reader.specs.declared.record.Record.{Record}
-use Rattle.reader.specs.declared.record.Decoded.{Decoded}
-use Rattle.reader.specs.declared.record.Decoded.the-variants.{Found, Malformed}
 use Rattle.history.specs.Table.{Whole}
 use Rattle.history.proofs.Basics.{up-to}
 use Rattle.projection.specs.Marks.{operationAt, Traced, CallersRoom, Owned, MarksAre}

@@ -4,10 +4,10 @@ use native.Mathlib.Omega.{arith}
 use mathlib.Core.Path.{_≡_, refl, ap, _∙_}
 use mathlib.Core.List.{List}
 use lib.ListN.{length, getD}
-use Rattle.reader.specs.Cursor.{behind}
-use Rattle.reader.specs.Record.{decodeAt}
+use Rattle.record.specs.Cursor.{behind}
+use Rattle.record.specs.Record.{decodeAt, sizeOf}
 use Rattle.reader.specs.Log.{headerLength, maxRecords, maxLength}
-use Rattle.reader.specs.Readable.{recordOf, sizeOf, sizes}
+use Rattle.reader.specs.Readable.{recordOf, sizes}
 use Rattle.history.specs.Table.{Whole}
 use Rattle.projection.specs.Marks.{isSet}
 use Rattle.projection.specs.Copies.{chosen, ifSet, Measured}

@@ -7,9 +7,9 @@ use mathlib.Core.Bool.{Bool, true}
 use mathlib.Core.Logic.{_↔_}
 use mathlib.Core.List.{List}
 use lib.ListN.{length, take, List·getD-eq-default}
+use Rattle.record.specs.declared.record.Record.{Record}
 use Rattle.reader.specs.Log.{isCall, operations}
 use Rattle.reader.specs.Readable.{recordOf}
-use Rattle.reader.specs.declared.record.Record.{Record}
 use Rattle.history.specs.Operations.{callIndex, returnIndex, historyOf}
 use Rattle.history.proofs.Numbering.{Called, call-of, same-call, index-of-rank, rank-step, ranks-below, return-is-next, next-is-return}
 use Rattle.violations.specs.Parts.{KeptAs}

@@ -7,10 +7,10 @@ use mathlib.Core.Path.{_≡_, refl, sym, ap, _∙_}
 use mathlib.Core.Bool.{Bool, true, false}
 use mathlib.Core.List.{List, [], _∷_}
 use lib.ListN.{length, take}
-use Rattle.reader.specs.Choice.{if_then_else_}
+use Rattle.record.specs.Choice.{if_then_else_}
+use Rattle.record.specs.declared.record.Record.{Record}
 use Rattle.reader.specs.Log.{isCall, operations}
 use Rattle.reader.specs.Readable.{recordOf, asks, Orderly}
-use Rattle.reader.specs.declared.record.Record.{Record}
 use Rattle.history.specs.Operations.{callIndex}
 use Rattle.history.proofs.Numbering.{Called, call-of}
 use Rattle.history.proofs.Events.{leaves-call, asks-call, isCall-small}

@@ -6,9 +6,9 @@ use mathlib.Core.Bool.{Bool, true}
 use mathlib.Core.Logic.{_↔_, Iff·rfl, Iff·symm, Iff·trans}
 use mathlib.Core.List.{List}
 use lib.ListN.{length}
+use Rattle.record.specs.declared.record.Record.{Record}
 use Rattle.reader.specs.Log.{operations}
 use Rattle.reader.specs.Readable.{recordOf, PartialLog}
-use Rattle.reader.specs.declared.record.Record.{Record}
 use Rattle.history.specs.History.{Returned, Precedes}
 use Rattle.history.specs.Operations.{callIndex, returnIndex, positionOf, historyOf}
 use Rattle.history.proofs.Numbering.{call-of}

@@ -7,8 +7,8 @@ use mathlib.Core.Bool.{Bool, true, false}
 use mathlib.Core.Logic.{_↔_}
 use mathlib.Core.List.{List, [], _∷_}
 use lib.ListN.{length}
+use Rattle.record.specs.declared.record.Record.{Record}
 use Rattle.reader.specs.Readable.{recordOf, Next}
-use Rattle.reader.specs.declared.record.Record.{Record}
 
 -- record i is picked, and stands at place j of those picked
 pub record PickedAt (source : ℕ → ℕ) (kept : List Record) (i j : ℕ) : Type 0 where

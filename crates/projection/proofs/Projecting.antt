@@ -7,16 +7,16 @@ use mathlib.Core.Bool.{true, false}
 use mathlib.Core.List.{List, _∷_, _++_}
 use lib.ListN.{length, drop}
 use borrow.Author.Tests.{lt-ltb, le-ltb}
-use Rattle.reader.specs.Buffer.{bufferTooShort, lacksRoom, written, put}
-use Rattle.reader.specs.Number.{bytesOf}
+use Rattle.record.specs.Number.{bytesOf}
+use Rattle.record.specs.declared.record.Record.{Record}
+use Rattle.buffer.specs.Buffer.{bufferTooShort, lacksRoom, written, put}
+use Rattle.buffer.proofs.Copying.{put-length, put-behind}
 use Rattle.reader.specs.Log.{logVersion, headerLength, readable, readLog, encodeAll, encodeLog}
-use Rattle.reader.specs.declared.record.Record.{Record}
 use Rattle.projection.specs.Outcome.{writing}
 use Rattle.projection.specs.Copies.{marked, Measured, RoomFor, Copied, Writes}
 use Rattle.projection.specs.declared.measure.Extent.{Extent}
 use Rattle.projection.specs.declared.write.Projected.{Projected}
 use Rattle.projection.specs.declared.write.Projected.the-variants.{Written, Refused}
-use Rattle.projection.proofs.Copying.{put-length, put-behind}
 use Rattle.projection.proofs.Sizes.{sizes-are, log-length}
 
 -- the header of a log of so many records

@@ -7,11 +7,11 @@ use mathlib.Core.List.{List, [], _∷_, _++_, append-assoc, append-nil}
 use lib.ListN.{length, drop}
 use lib.Dec.{eqb}
 use lib.Seq.{drop-cons, drop-length}
-use Rattle.reader.specs.Choice.{if_then_else_}
+use Rattle.record.specs.Choice.{if_then_else_}
+use Rattle.record.specs.declared.record.Event.the-variants.{CallRemove}
+use Rattle.record.specs.declared.record.Record.{Record}
 use Rattle.reader.specs.Log.{readable, readLog}
 use Rattle.reader.specs.Readable.{recordOf}
-use Rattle.reader.specs.declared.record.Event.the-variants.{CallRemove}
-use Rattle.reader.specs.declared.record.Record.{Record}
 use Rattle.projection.specs.Projection.{keepRecords}
 use Rattle.projection.specs.Marks.{keptMark, isSet, pastOf, operationAt, MarksAre}
 use Rattle.projection.specs.Copies.{chosen, marked}

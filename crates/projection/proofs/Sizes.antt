@@ -6,13 +6,13 @@ use mathlib.Core.Path.{_≡_, refl, sym, ap, _∙_}
 use mathlib.Core.List.{List, [], _∷_, _++_, append-assoc}
 use lib.ListN.{length, take, drop, length-append, take-append-drop}
 use lib.Seq.{take-length, take-suc, take-at, drop-at, split-at}
-use Rattle.reader.specs.Number.{bytesOf}
-use Rattle.reader.specs.Record.{encode}
+use Rattle.record.specs.Number.{bytesOf, Bytes}
+use Rattle.record.specs.Record.{encode, sizeOf}
+use Rattle.record.specs.declared.record.Event.the-variants.{CallRemove}
+use Rattle.record.specs.declared.record.Record.{Record}
+use Rattle.record.proofs.Laws.{encode-length}
 use Rattle.reader.specs.Log.{logVersion, headerLength, encodeAll, encodeLog}
-use Rattle.reader.specs.Readable.{Bytes, recordOf, sizeOf, sizes, offsetOf, PartialLog}
-use Rattle.reader.specs.declared.record.Event.the-variants.{CallRemove}
-use Rattle.reader.specs.declared.record.Record.{Record}
-use Rattle.reader.proofs.Encoding.{encode-length}
+use Rattle.reader.specs.Readable.{recordOf, sizes, offsetOf, PartialLog}
 
 -- the sizes and the bytes of records and of those behind them
 pub sizes-append : (rs ss : List Record) → sizes (rs ++ ss) ≡ sizes rs + sizes ss

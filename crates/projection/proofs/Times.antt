@@ -6,9 +6,9 @@ use mathlib.Core.Logic.{_↔_}
 use mathlib.Core.List.{List}
 use lib.ListN.{length}
 use borrow.Author.Tests.{lt-ltb, le-ltb}
+use Rattle.record.specs.declared.record.Record.{Record}
 use Rattle.reader.specs.Log.{operations}
 use Rattle.reader.specs.Readable.{PartialLog}
-use Rattle.reader.specs.declared.record.Record.{Record}
 use Rattle.history.specs.History.{Returned, Precedes}
 use Rattle.history.specs.Operations.{callIndex, returnIndex, positionOf, historyOf}
 use Rattle.history.proofs.Numbering.{call-of}

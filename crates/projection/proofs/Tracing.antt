@@ -5,9 +5,9 @@ use native.Mathlib.Decide.{decLt, ℕ-discrete}
 use mathlib.Core.Path.{_≡_, refl, sym, ap, _∙_}
 use mathlib.Core.List.{List}
 use lib.ListN.{length, length-set, replicate}
+use Rattle.record.specs.declared.record.Record.{Record}
 use Rattle.reader.specs.Log.{maxRecords, isCall, operations}
 use Rattle.reader.specs.Readable.{recordOf, ReadableLog}
-use Rattle.reader.specs.declared.record.Record.{Record}
 use Rattle.reader.proofs.Laws.{few-operations}
 use Rattle.history.specs.Callers.{clientAt, Latest, Begun, Found}
 use Rattle.history.proofs.Basics.{up-to, zeros}

@@ -8,10 +8,10 @@ use mathlib.Core.Bool.{Bool}
 use mathlib.Core.Logic.{_⊎_, inl, inr}
 use mathlib.Core.List.{List}
 use lib.ListN.{length}
+use Rattle.record.specs.declared.record.Event.the-variants.{CallAdd, CallRemove}
+use Rattle.record.specs.declared.record.Record.{Record}
 use Rattle.reader.specs.Log.{isCall}
 use Rattle.reader.specs.Readable.{recordOf, asks, leaves, Next, Orderly}
-use Rattle.reader.specs.declared.record.Event.the-variants.{CallAdd, CallRemove}
-use Rattle.reader.specs.declared.record.Record.{Record}
 use Rattle.reader.proofs.Laws.{follows}
 use Rattle.reader.proofs.Clients.{precedes-law}
 use Rattle.history.proofs.Numbering.{next-is-return, next-of-one}

@@ -6,11 +6,11 @@ use mathlib.Core.Bool.{Bool}
 use mathlib.Core.List.{List, [], _∷_, _++_}
 use lib.ListN.{length}
 use lib.Dec.{eqb}
-use Rattle.reader.specs.Choice.{if_then_else_}
-use Rattle.reader.specs.Buffer.{written, put}
+use Rattle.record.specs.Choice.{if_then_else_}
+use Rattle.record.specs.declared.record.Record.{Record}
+use Rattle.buffer.specs.Buffer.{written, put}
 use Rattle.reader.specs.Log.{headerLength, maxRecords, maxLength, readable, readLog, encodeAll, encodeLog}
 use Rattle.reader.specs.Readable.{recordOf, sizes}
-use Rattle.reader.specs.declared.record.Record.{Record}
 use Rattle.projection.specs.Projection.{keepRecords}
 use Rattle.projection.specs.Outcome.{writing}
 use Rattle.projection.specs.Marks.{keptMark, isSet}

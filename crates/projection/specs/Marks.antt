@@ -6,9 +6,9 @@ use mathlib.Core.Bool.{Bool}
 use mathlib.Core.List.{List, [], _∷_}
 use lib.ListN.{length, getD}
 use lib.Dec.{eqb}
+use Rattle.record.specs.declared.record.Record.{Record}
 use Rattle.reader.specs.Log.{maxRecords, readable, readLog, isCall, operations}
 use Rattle.reader.specs.Readable.{recordOf, ReadableLog}
-use Rattle.reader.specs.declared.record.Record.{Record}
 use Rattle.history.specs.Callers.{clientAt, linkAt, Linked, LeadsDown, Latest}
 use Rattle.history.specs.History.{History}
 use Rattle.history.specs.Operations.{historyOf}

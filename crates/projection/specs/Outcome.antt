@@ -4,10 +4,10 @@ use Prim.Native.Nat.{ℕ}
 use mathlib.Core.Logic.{_⊎_, inl, inr}
 use mathlib.Core.List.{List}
 use lib.ListN.{length}
-use Rattle.reader.specs.Choice.{if_then_else_}
-use Rattle.reader.specs.Buffer.{bufferTooShort, lacksRoom, written}
+use Rattle.record.specs.Choice.{if_then_else_}
+use Rattle.record.specs.declared.record.Record.{Record}
+use Rattle.buffer.specs.Buffer.{bufferTooShort, lacksRoom, written}
 use Rattle.reader.specs.Log.{Reading, readable, refused, encodeLog}
-use Rattle.reader.specs.declared.record.Record.{Record}
 use Rattle.history.specs.Operations.{historyOf}
 use Rattle.violations.specs.Violations.{NoViolation}
 use Rattle.violations.proofs.Laws.{SomeViolation, first-violation}

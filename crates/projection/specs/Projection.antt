@@ -5,9 +5,9 @@ use Prim.Native.Nat.{ℕ}
 use mathlib.Core.Bool.{Bool}
 use mathlib.Core.List.{List, [], _∷_}
 use lib.Dec.{eqb}
-use Rattle.reader.specs.Choice.{if_then_else_}
+use Rattle.record.specs.Choice.{if_then_else_}
+use Rattle.record.specs.declared.record.Record.{Record}
 use Rattle.reader.specs.Log.{isCall, isIn, operations}
-use Rattle.reader.specs.declared.record.Record.{Record}
 use Rattle.history.specs.History.{History, emptyRemove}
 use Rattle.history.specs.Operations.{historyOf}
 

@@ -20,16 +20,14 @@ use history::operations::TABLE;
 use history::operations::VALUE;
 use history::operations::tabulate;
 use judge::decide::decide;
+use patterns::find::ORDER;
 use reader::format::MAX_RECORDS;
 use reader::log::Checked;
 use reader::table::Table;
 use reader::table::push;
 
-// The verdict of an order.
-const ORDER: u32 = 0;
-
 // The number of the refusal of an excerpt where the verdict is an order.
-pub const NO_PATTERN: u32 = 23;
+const NO_PATTERN: u32 = 23;
 
 // Puts the value of an operation behind those of a table; an empty remove has none. Answers how many there are then.
 fn add_value(table: &Operations, o: usize, count: usize, values: &mut Table) -> usize

@@ -10,12 +10,12 @@ use history::callers::Callers;
 use history::callers::Recent;
 use history::callers::begin;
 use history::callers::latest_of;
-use reader::cursor::read_at;
 use reader::format::HEADER;
 use reader::format::MAX_RECORDS;
-use reader::record::Decoded;
-use reader::record::Event;
-use reader::record::Record;
+use record::cursor::read_at;
+use record::record::Decoded;
+use record::record::Event;
+use record::record::Record;
 
 // The operation of a record, and how many operations the records up to it call.
 pub struct Owner {

@@ -1,15 +1,15 @@
 // How much of a log is marked. The marked records, and what is counted of them, are said in specs/Copies.antt.
 ghost use mathlib.Core.Path.{_≡_};
 ghost use Prim.Native.Nat.{_≤_};
-ghost use Rattle.reader.specs.Cursor.{behind};
-ghost use Rattle.reader.specs.Record.{decodeAt};
+ghost use Rattle.record.specs.Cursor.{behind};
+ghost use Rattle.record.specs.Record.{decodeAt};
 ghost use Rattle.history.specs.Table.{Whole};
 ghost use Rattle.projection.specs.Copies.{ifSet, Measured};
 use crate::keep::MARKED;
 use crate::keep::Marks;
-use reader::cursor::read_at;
 use reader::format::HEADER;
-use reader::record::Decoded;
+use record::cursor::read_at;
+use record::record::Decoded;
 
 // How many records are marked, and how many bytes they take.
 pub struct Extent {

@@ -4,9 +4,9 @@ ghost use mathlib.Core.Path.{_≡_};
 ghost use mathlib.Core.List.{_∷_};
 ghost use Prim.Native.Nat.{_+_, _≤_};
 ghost use lib.ListN.{length};
+ghost use Rattle.record.specs.Number.{bytesOf};
+ghost use Rattle.buffer.specs.Buffer.{put};
 ghost use Rattle.reader.specs.Log.{logVersion, headerLength, maxRecords};
-ghost use Rattle.reader.specs.Number.{bytesOf};
-ghost use Rattle.reader.specs.Buffer.{put};
 ghost use Rattle.history.specs.Table.{Whole};
 ghost use Rattle.projection.specs.Copies.{marked, RoomFor, Copied, Writes, keptRecords};
 use crate::keep::Marks;
@@ -14,6 +14,8 @@ use crate::mark::mark;
 use crate::measure::end_of;
 use crate::measure::if_marked;
 use crate::measure::measure;
+use buffer::buffer::BUFFER_TOO_SHORT;
+use buffer::buffer::copy;
 use reader::format::HEADER;
 use reader::format::MAX_RECORDS;
 use reader::format::VERSION;
@@ -24,9 +26,6 @@ pub enum Projected {
     Refused { number: u32, index: usize },
 }
 
-// The number of the refusal of a buffer that is too short for the answer.
-pub const BUFFER_TOO_SHORT: u32 = 24;
-
 // Writes the header of a log of so many records.
 pub fn write_header(count: usize, out: &mut [u8])
     requires { ⌜ (count ≤ maxRecords) × (headerLength ≤ length (now out)) ⌝ }
@@ -35,18 +34,6 @@ pub fn write_header(count: usize, out: &mut [u8])
     out[0] = VERSION;
     out[1] = (count / 256) as u8;
     out[2] = (count % 256) as u8;
-}
-
-// Copies bytes into a buffer, to a position of it.
-pub fn copy(bytes: &[u8], at: usize, out: &mut [u8])
-    requires { ⌜ at + length (now bytes) ≤ length (now out) ⌝ }
-    ensures { λ _. ⌜ now (out .exit) ≡ put at (now (bytes .entry)) (now (out .entry)) ⌝ }
-{
-    let mut i = 0;
-    while i < bytes.len() {
-        out[at + i] = bytes[i];
-        i += 1;
-    }
 }
 
 // Copies the marked records of a readable log, one behind the other, behind the header.
@@ -87,7 +74,7 @@ fn write_marked(log: &[u8], records: usize, marks: &Marks, out: &mut [u8]) -> Pr
 }
 
 // Writes the records of the kept operations of a readable log as a log.
-pub fn write_kept(log: &[u8], records: usize, kept: &Marks, out: &mut [u8]) -> Projected
+pub(crate) fn write_kept(log: &[u8], records: usize, kept: &Marks, out: &mut [u8]) -> Projected
     requires { ⌜ Whole (now log) records ⌝ }
     ensures { λ r. ⌜ Writes (now (log .entry)) (keptRecords (now (kept .entry))) (now (out .entry)) r (now (out .exit)) ⌝ }
 {

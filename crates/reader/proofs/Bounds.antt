@@ -7,15 +7,15 @@ use mathlib.Core.List.{List, [], _∷_, reverse}
 use lib.ListN.{length, getD, length-reverse}
 use lib.Dec.{ltb, leb, eqb, lit≤}
 use borrow.Author.Tests.{ltb-true, ltb-false, eqb-false}
-use Rattle.reader.specs.Choice.{if_then_else_}
-use Rattle.reader.specs.Record.{lengthOf, recordAt, decodeAt}
+use Rattle.record.specs.Choice.{if_then_else_}
+use Rattle.record.specs.Record.{lengthOf, recordAt, decodeAt}
+use Rattle.record.specs.declared.record.Event.{Event}
+use Rattle.record.specs.declared.record.Event.the-variants.{CallAdd, CallRemove, ReturnAdd, ReturnRemove}
+use Rattle.record.specs.declared.record.Record.{Record}
+use Rattle.record.specs.declared.record.Decoded.{Decoded}
+use Rattle.record.specs.declared.record.Decoded.the-variants.{Found, Malformed}
 use Rattle.reader.specs.Log.{logVersion, headerLength, maxRecords, countField, pendingCalls, pendingKind, addedValues, isIn, lastTick, Reading, readable, refused, eventFault, fault, afterDecode, unlessFault, scan, readPartial, pendingRemove, complete, readLog}
 use Rattle.reader.specs.Readable.{Within}
-use Rattle.reader.specs.declared.record.Event.{Event}
-use Rattle.reader.specs.declared.record.Event.the-variants.{CallAdd, CallRemove, ReturnAdd, ReturnRemove}
-use Rattle.reader.specs.declared.record.Record.{Record}
-use Rattle.reader.specs.declared.record.Decoded.{Decoded}
-use Rattle.reader.specs.declared.record.Decoded.the-variants.{Found, Malformed}
 
 -- a refusal of a record has a number from 1 to 10
 abbrev pub Known : Decoded → Type 0

@@ -10,15 +10,15 @@ use lib.ListN.{length, getD, take, drop, length-append, length-reverse, List·ge
 use lib.Seq.{take-add, take-length, take-append-le, take-append-seam, take-append-add, drop-cons, drop-drop, getD-append-seam}
 use lib.Dec.{ltb, leb, eqb}
 use borrow.Author.Tests.{leb-false, ltb-false, eqb-true, eqb-false}
-use Rattle.reader.specs.Choice.{if_then_else_}
-use Rattle.reader.specs.Number.{bigEndian, bytesOf}
-use Rattle.reader.specs.Record.{kindOf, lengthOf, eventOf, encode, recordAt, decodeAt}
+use Rattle.record.specs.Choice.{if_then_else_}
+use Rattle.record.specs.Number.{bigEndian, bytesOf, Bytes}
+use Rattle.record.specs.Record.{kindOf, lengthOf, eventOf, encode, recordAt, decodeAt, sizeOf, valueIn, Small}
+use Rattle.record.specs.declared.record.Record.{Record}
+use Rattle.record.specs.declared.record.Decoded.the-variants.{Found, Malformed}
+use Rattle.record.proofs.Numbers.{number-back, number-small}
+use Rattle.record.proofs.Records.{kind-back, event-least, event-most, value-within, value-fills}
 use Rattle.reader.specs.Log.{logVersion, headerLength, maxRecords, maxLength, countField, encodeAll, encodeLog}
-use Rattle.reader.specs.Readable.{Bytes, recordOf, sizeOf, sizes, offsetOf, valueIn, Small, Writable}
-use Rattle.reader.specs.declared.record.Record.{Record}
-use Rattle.reader.specs.declared.record.Decoded.the-variants.{Found, Malformed}
-use Rattle.reader.proofs.Numbers.{number-back, number-small}
-use Rattle.reader.proofs.Records.{kind-back, event-least, event-most, value-within, value-fills}
+use Rattle.reader.specs.Readable.{recordOf, sizes, offsetOf, Writable}
 use Rattle.reader.proofs.Run.{Run, done, more, Read}
 
 -- a record stands at a position: its bytes are there, its fields are those bytes, and the next position is where it ends

@@ -8,12 +8,12 @@ use mathlib.Core.List.{List, [], _∷_, _++_, map, append-nil}
 use lib.ListN.{length, getD, length-append}
 use lib.Dec.{ltb, eqb, lit<, lit≤, leb·suc-suc}
 use borrow.Author.Tests.{lt-ltb, eq-eqb, ne-eqb, eqb-true, eqb-false}
-use Rattle.reader.specs.Choice.{if_then_else_}
+use Rattle.record.specs.Choice.{if_then_else_}
+use Rattle.record.specs.declared.record.Event.{Event}
+use Rattle.record.specs.declared.record.Event.the-variants.{CallAdd, CallRemove, ReturnAdd, ReturnRemove}
+use Rattle.record.specs.declared.record.Record.{Record}
 use Rattle.reader.specs.Log.{Call, callOf, ofOthers, pendingCalls, pendingKind, earliestRemove, isIn}
 use Rattle.reader.specs.Tables.{position, without, clientsOf, code, kindOfFound, earliestCode}
-use Rattle.reader.specs.declared.record.Event.{Event}
-use Rattle.reader.specs.declared.record.Event.the-variants.{CallAdd, CallRemove, ReturnAdd, ReturnRemove}
-use Rattle.reader.specs.declared.record.Record.{Record}
 
 -- calls with a kind that fits their code, 1 to 3, at most one for each client
 pub data Sound : List Call → Type 0 where

@@ -10,11 +10,11 @@ use mathlib.Core.List.{List, [], _∷_, _++_, reverse, reverse-cons}
 use lib.ListN.{length, length-reverse, List·getD-append}
 use lib.Seq.{getD-append-seam}
 use borrow.Author.Tests.{eq-eqb, ne-eqb}
+use Rattle.record.specs.declared.record.Event.{Event}
+use Rattle.record.specs.declared.record.Event.the-variants.{CallAdd, CallRemove, ReturnAdd, ReturnRemove}
+use Rattle.record.specs.declared.record.Record.{Record}
 use Rattle.reader.specs.Log.{callOf, pendingCalls, pendingKind, earliestRemove, valueOf, addedValues, isIn, lastTick}
 use Rattle.reader.specs.Readable.{recordOf, asks, leaves, Next}
-use Rattle.reader.specs.declared.record.Event.{Event}
-use Rattle.reader.specs.declared.record.Event.the-variants.{CallAdd, CallRemove, ReturnAdd, ReturnRemove}
-use Rattle.reader.specs.declared.record.Record.{Record}
 use Rattle.reader.proofs.Calls.{own-kind, other-kind, pending-below, earliest-below}
 use Rattle.reader.proofs.Faults.{no-fault}
 use Rattle.reader.proofs.Lists.{isIn-append, isIn-last}

@@ -2,12 +2,12 @@
 use Prim.Native.Nat.{ℕ}
 use mathlib.Core.Path.{_≡_, refl}
 use mathlib.Core.List.{List, [], _∷_}
-use Rattle.reader.specs.Number.{bigEndian, bytesOf}
-use Rattle.reader.specs.Record.{lengthOf, eventOf, encode, decodeAt}
+use Rattle.record.specs.Number.{bigEndian, bytesOf}
+use Rattle.record.specs.Record.{lengthOf, eventOf, encode, decodeAt}
+use Rattle.record.specs.declared.record.Removed.the-variants.{Value, Empty}
+use Rattle.record.specs.declared.record.Event.the-variants.{CallRemove, ReturnRemove}
+use Rattle.record.specs.declared.record.Decoded.the-variants.{Found}
 use Rattle.reader.specs.Log.{Reading, ofOthers, pendingCalls, pendingKind, earliestRemove, addedValues, isIn, eventFault, fault, scan, readPartial, readLog, operations, checked, encodeAll, encodeLog}
-use Rattle.reader.specs.declared.record.Removed.the-variants.{Value, Empty}
-use Rattle.reader.specs.declared.record.Event.the-variants.{CallRemove, ReturnRemove}
-use Rattle.reader.specs.declared.record.Decoded.the-variants.{Found}
 use Rattle.reader.specs.declared.log.Checked.{Checked}
 use Rattle.reader.specs.declared.log.Checked.the-variants.{Readable, Refused}
 

@@ -8,17 +8,18 @@ use mathlib.Core.List.{List, [], _∷_, _++_, reverse, reverse-cons, append-asso
 use lib.ListN.{length, getD, take}
 use lib.Seq.{take-length}
 use borrow.Author.Tests.{eqb-true, eq-eqb}
-use Rattle.reader.specs.Choice.{if_then_else_}
-use Rattle.reader.specs.Record.{encode, decodeAt}
+use Rattle.record.specs.Choice.{if_then_else_}
+use Rattle.record.specs.Record.{encode, decodeAt, sizeOf, Small}
+use Rattle.record.specs.Number.{Bytes}
+use Rattle.record.specs.declared.record.Record.{Record}
+use Rattle.record.specs.declared.record.Decoded.{Decoded}
+use Rattle.record.specs.declared.record.Decoded.the-variants.{Found, Malformed}
+use Rattle.record.proofs.Laws.{encode-length, written-record}
 use Rattle.reader.specs.Log.{fault}
 use Rattle.reader.specs.Feed.{isOneRecord, decodedFault, faultBehind}
-use Rattle.reader.specs.Readable.{Bytes, sizeOf, Small, Writable}
-use Rattle.reader.specs.declared.record.Record.{Record}
-use Rattle.reader.specs.declared.record.Decoded.{Decoded}
-use Rattle.reader.specs.declared.record.Decoded.the-variants.{Found, Malformed}
+use Rattle.reader.specs.Readable.{Writable}
 use Rattle.reader.proofs.Bounds.{Known, decode-known}
 use Rattle.reader.proofs.Bytes.{decode-inverts, record-back, small-there}
-use Rattle.reader.proofs.Encoding.{encode-length, decode-encodes}
 
 -- The bytes are those of a record that can be written behind the past.
 pub record RecordBehind (past : List Record) (bytes : List ℕ) : Type 0 where
@@ -45,7 +46,7 @@ faultless-is-record past bytes b z = go (isOneRecord bytes) refl z
 pub record-is-faultless : (past : List Record) (r : Record) → Small r → fault past r ≡ 0 → faultBehind past (encode r) ≡ 0
 unfolding faultBehind encode
 record-is-faultless past r small ok =
-    let found : decodeAt (encode r) 0 ≡ Found r (0 + sizeOf r) = rw (append-nil (encode r)) at (decode-encodes [] [] r small) in
+    let found : decodeAt (encode r) 0 ≡ Found r (0 + sizeOf r) = rw (append-nil (encode r)) at (written-record [] [] r small) in
     rw (eq-eqb (length (encode r)) (getD (encode r) 0 0 + 1) (omega (arith, encode-length r)), found) ok
 
 -- one record more can be written behind those that can be

@@ -6,13 +6,13 @@ use mathlib.Core.Bool.{not}
 use mathlib.Core.List.{List, [], _∷_, _++_, map, map-append, append-nil}
 use lib.ListN.{length, take, length-append}
 use lib.Dec.{ltb, eqb, lit≤}
-use Rattle.reader.specs.Choice.{if_then_else_}
+use Rattle.record.specs.Choice.{if_then_else_}
+use Rattle.record.specs.declared.record.Event.{Event}
+use Rattle.record.specs.declared.record.Event.the-variants.{CallAdd, CallRemove, ReturnAdd, ReturnRemove}
+use Rattle.record.specs.declared.record.Record.{Record}
 use Rattle.reader.specs.Log.{maxRecords, Call, callOf, pendingCalls, pendingKind, valueOf, addedValues, lastTick, isCall, operations, eventFault, fault}
 use Rattle.reader.specs.Readable.{asks}
 use Rattle.reader.specs.Tables.{position, without, clientsOf, code, eventFaultIn, faultIn, PendingKept, AddedKept, Room, Kept, Begun, Ended, Pushed}
-use Rattle.reader.specs.declared.record.Event.{Event}
-use Rattle.reader.specs.declared.record.Event.the-variants.{CallAdd, CallRemove, ReturnAdd, ReturnRemove}
-use Rattle.reader.specs.declared.record.Record.{Record}
 use Rattle.reader.specs.declared.scan.Progress.{Progress}
 use Rattle.reader.proofs.Lists.{map-without, length-without}
 use Rattle.reader.proofs.Faults.{no-fault}

@@ -8,18 +8,16 @@ use mathlib.Core.List.{List, [], _++_, reverse-reverse}
 use lib.ListN.{length, length-reverse}
 use lib.Dec.{ltb}
 use borrow.Author.Tests.{ltb-false}
-use Rattle.reader.specs.Choice.{if_then_else_}
-use Rattle.reader.specs.Record.{encode, decodeAt}
+use Rattle.record.specs.Choice.{if_then_else_}
+use Rattle.record.specs.declared.record.Event.the-variants.{CallRemove}
+use Rattle.record.specs.declared.record.Record.{Record}
 use Rattle.reader.specs.Log.{maxRecords, encodeLog, Reading, readable, refused, pendingCalls, earliestRemove, pendingRemove, readPartial, complete, readLog, operations, checked}
-use Rattle.reader.specs.Readable.{Within, recordOf, sizeOf, asks, Next, PartialLog, ReadableLog, Small, Writable}
-use Rattle.reader.specs.declared.record.Event.the-variants.{CallRemove}
-use Rattle.reader.specs.declared.record.Record.{Record}
-use Rattle.reader.specs.declared.record.Decoded.the-variants.{Found}
+use Rattle.reader.specs.Readable.{Within, recordOf, asks, Next, PartialLog, ReadableLog, Writable}
 use Rattle.reader.specs.declared.log.Checked.the-variants.{Readable, Refused}
 use Rattle.reader.proofs.Bounds.{partial-within, log-within}
 use Rattle.reader.proofs.Keeping.{operations-few}
 use Rattle.reader.proofs.Scanning.{operations-append}
-use Rattle.reader.proofs.Encoding.{decode-encodes, log-encodes}
+use Rattle.reader.proofs.Encoding.{log-encodes}
 use Rattle.reader.proofs.Bytes.{count-law, few-law, stands-law, fills-law, short-law, bytes-law, writable-law}
 use Rattle.reader.proofs.Clients.{ticks-law, first-law, next-law, once-law, follows-law, precedes-law, returned-law}
 use Rattle.reader.proofs.Run.{Admits, none, Read, reads, run-admits}
@@ -27,9 +25,8 @@ use Rattle.reader.proofs.Run.{Admits, none, Read, reads, run-admits}
 pub use Rattle.reader.proofs.Orderly.{readable-orderly, orderly-readable}
 -- Bytes that are handed in as one record behind a log are a record's that can be written there exactly if nothing is wrong with them.
 pub use Rattle.reader.proofs.Feeding.{RecordBehind, faultless-is-record, record-is-faultless, writable-more}
--- the bytes of records with one more behind them, and of one record
+-- the bytes of records with one more behind them
 pub use Rattle.reader.proofs.Bytes.{encode-snoc}
-pub use Rattle.reader.proofs.Encoding.{encode-length}
 
 -- what holds of the records as they were read, latest first, holds of the log's records
 read-partial : {log : List ℕ} {records : List Record} → Read log records → PartialLog log records
@@ -104,11 +101,7 @@ called {records = records} l j h n = go (precedes-law records j h)
     go (inl before) = before
     go (inr alone) = absurd (n (l .first j h alone))
 
--- the other direction: a record that is written is found where it stands
-pub written-record : (before after : List ℕ) (r : Record) → Small r → decodeAt (before ++ encode r ++ after) (length before) ≡ Found r (length before + sizeOf r)
-written-record = decode-encodes
-
--- and a log of records that can be written is read as those records
+-- the other direction: a log of records that can be written is read as those records
 pub written-log : (records : List Record) → length records ≤ maxRecords → Writable [] records → readPartial (encodeLog records) ≡ readable records
 written-log = log-encodes
 

@@ -9,10 +9,7 @@ pub mod Feeding
 pub mod Keeping
 pub mod Laws
 pub mod Lists
-pub mod Numbers
 pub mod Orderly
-pub mod Readers
-pub mod Records
 pub mod Run
 pub mod Scanning
 pub mod Search

@@ -9,7 +9,7 @@ use lib.ListN.{length, getD, set, take, drop, drop-of-length-le, length-append, 
 use lib.Seq.{take-suc, take-suc-set, take-set-lt, drop-cons, drop-set-lt, getD-take, length-take-le}
 use lib.Dec.{eqb}
 use borrow.Author.Tests.{lt-ltb, le-ltb, eq-eqb, ne-eqb}
-use Rattle.reader.specs.Choice.{if_then_else_}
+use Rattle.record.specs.Choice.{if_then_else_}
 use Rattle.reader.specs.Log.{isIn}
 use Rattle.reader.specs.Tables.{position, without, kindOfFound, earliestCode}
 

@@ -8,11 +8,13 @@ use mathlib.Core.List.{List, [], _∷_, _++_, reverse, reverse-cons, reverse-rev
 use lib.ListN.{length, length-append, length-reverse, List·getD-append}
 use lib.Seq.{getD-at}
 use borrow.Author.Tests.{le-ltb}
+use Rattle.record.specs.Number.{Bytes}
+use Rattle.record.specs.Record.{Small}
+use Rattle.record.specs.declared.record.Event.{Event}
+use Rattle.record.specs.declared.record.Event.the-variants.{CallAdd, CallRemove, ReturnAdd, ReturnRemove}
+use Rattle.record.specs.declared.record.Record.{Record}
 use Rattle.reader.specs.Log.{encodeLog, readable, pendingCalls, pendingKind, pendingRemove, addedValues, isIn, lastTick, fault, complete, readLog}
-use Rattle.reader.specs.Readable.{Bytes, recordOf, asks, leaves, Next, Small, Writable, none, more, ReadableLog, Orderly}
-use Rattle.reader.specs.declared.record.Event.{Event}
-use Rattle.reader.specs.declared.record.Event.the-variants.{CallAdd, CallRemove, ReturnAdd, ReturnRemove}
-use Rattle.reader.specs.declared.record.Record.{Record}
+use Rattle.reader.specs.Readable.{recordOf, asks, leaves, Next, Writable, none, more, ReadableLog, Orderly}
 use Rattle.reader.proofs.Calls.{pending-sound, earliest-absent}
 use Rattle.reader.proofs.Clients.{nth, last-tick, kind-latest, kind-absent, value-absent, precedes-law}
 use Rattle.reader.proofs.Encoding.{log-encodes}

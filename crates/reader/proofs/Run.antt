@@ -7,12 +7,12 @@ use mathlib.Core.List.{List, [], _∷_, reverse}
 use lib.ListN.{length, getD}
 use lib.Dec.{ltb, eqb}
 use borrow.Author.Tests.{ltb-false, eqb-true}
-use Rattle.reader.specs.Choice.{if_then_else_}
-use Rattle.reader.specs.Record.{decodeAt}
+use Rattle.record.specs.Choice.{if_then_else_}
+use Rattle.record.specs.Record.{decodeAt}
+use Rattle.record.specs.declared.record.Record.{Record}
+use Rattle.record.specs.declared.record.Decoded.{Decoded}
+use Rattle.record.specs.declared.record.Decoded.the-variants.{Found, Malformed}
 use Rattle.reader.specs.Log.{logVersion, headerLength, maxRecords, countField, readable, refused, fault, afterDecode, unlessFault, scan, readPartial}
-use Rattle.reader.specs.declared.record.Record.{Record}
-use Rattle.reader.specs.declared.record.Decoded.{Decoded}
-use Rattle.reader.specs.declared.record.Decoded.the-variants.{Found, Malformed}
 
 -- from position `at`, behind the past, `left` records are read; `all` are then the past
 pub data Run (log : List ℕ) : ℕ → ℕ → List Record → List Record → Type 0 where

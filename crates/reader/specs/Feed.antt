@@ -5,13 +5,13 @@ use mathlib.Core.Bool.{Bool, not}
 use mathlib.Core.List.{List, reverse}
 use lib.ListN.{length, getD}
 use lib.Dec.{leb, eqb}
-use Rattle.reader.specs.Choice.{if_then_else_}
-use Rattle.reader.specs.Refusal.{wrongBytes}
-use Rattle.reader.specs.Record.{decodeAt}
+use Rattle.record.specs.Choice.{if_then_else_}
+use Rattle.record.specs.Refusal.{wrongBytes}
+use Rattle.record.specs.Record.{decodeAt}
+use Rattle.record.specs.declared.record.Record.{Record}
+use Rattle.record.specs.declared.record.Decoded.{Decoded}
+use Rattle.record.specs.declared.record.Decoded.the-variants.{Found, Malformed}
 use Rattle.reader.specs.Log.{maxRecords, Reading, readable, refused, fault}
-use Rattle.reader.specs.declared.record.Record.{Record}
-use Rattle.reader.specs.declared.record.Decoded.{Decoded}
-use Rattle.reader.specs.declared.record.Decoded.the-variants.{Found, Malformed}
 use Rattle.reader.specs.declared.log.Extension.{Extension}
 use Rattle.reader.specs.declared.log.Extension.the-variants.{Unreadable, Full, Faulty, Fits}
 

@@ -1,9 +1,3 @@
-pub mod Buffer
-pub mod Choice
-pub mod Number
-pub mod Refusal
-pub mod Record
-pub mod Cursor
 pub mod Log
 pub mod Readable
 pub mod Feed

@@ -5,16 +5,16 @@ use mathlib.Core.Bool.{Bool, true, false, not}
 use mathlib.Core.List.{List, [], _∷_, _++_, reverse}
 use lib.ListN.{length, getD}
 use lib.Dec.{ltb, eqb}
-use Rattle.reader.specs.Choice.{if_then_else_}
-use Rattle.reader.specs.Buffer.{put}
-use Rattle.reader.specs.Number.{bigEndian, bytesOf}
-use Rattle.reader.specs.Refusal.{wrongBytes, wrongVersion, tooManyRecords, tickFell, clientBusy, noSuchCall, addedTwice, removePending}
-use Rattle.reader.specs.Record.{encode, decodeAt}
-use Rattle.reader.specs.declared.record.Event.{Event}
-use Rattle.reader.specs.declared.record.Event.the-variants.{CallAdd, CallRemove, ReturnAdd, ReturnRemove}
-use Rattle.reader.specs.declared.record.Record.{Record}
-use Rattle.reader.specs.declared.record.Decoded.{Decoded}
-use Rattle.reader.specs.declared.record.Decoded.the-variants.{Found, Malformed}
+use Rattle.record.specs.Choice.{if_then_else_}
+use Rattle.record.specs.Number.{bigEndian, bytesOf}
+use Rattle.record.specs.Refusal.{wrongBytes, wrongVersion, tooManyRecords, tickFell, clientBusy, noSuchCall, addedTwice, removePending}
+use Rattle.record.specs.Record.{encode, decodeAt}
+use Rattle.record.specs.declared.record.Event.{Event}
+use Rattle.record.specs.declared.record.Event.the-variants.{CallAdd, CallRemove, ReturnAdd, ReturnRemove}
+use Rattle.record.specs.declared.record.Record.{Record}
+use Rattle.record.specs.declared.record.Decoded.{Decoded}
+use Rattle.record.specs.declared.record.Decoded.the-variants.{Found, Malformed}
+use Rattle.buffer.specs.Buffer.{put}
 use Rattle.reader.specs.declared.log.Checked.{Checked}
 use Rattle.reader.specs.declared.log.Checked.the-variants.{Readable, Refused}
 

@@ -4,32 +4,25 @@ use Prim.Native.Nat.{ℕ, _+_, _≤_, _<_}
 use mathlib.Core.Path.{_≡_}
 use mathlib.Core.List.{List, [], _∷_}
 use lib.ListN.{length, getD, take}
-use Rattle.reader.specs.Refusal.{removePending}
-use Rattle.reader.specs.Record.{kindOf, lengthOf, decodeAt}
+use Rattle.record.specs.Number.{Bytes}
+use Rattle.record.specs.Refusal.{removePending}
+use Rattle.record.specs.Record.{sizeOf, Small, decodeAt}
+use Rattle.record.specs.declared.record.Event.{Event}
+use Rattle.record.specs.declared.record.Event.the-variants.{CallAdd, CallRemove, ReturnAdd, ReturnRemove}
+use Rattle.record.specs.declared.record.Record.{Record}
+use Rattle.record.specs.declared.record.Decoded.the-variants.{Found}
 use Rattle.reader.specs.Log.{logVersion, headerLength, maxRecords, maxLength, addCall, removeCall, countField, Reading, readable, refused, fault, encodeLog}
-use Rattle.reader.specs.declared.record.Removed.the-variants.{Value, Empty}
-use Rattle.reader.specs.declared.record.Event.{Event}
-use Rattle.reader.specs.declared.record.Event.the-variants.{CallAdd, CallRemove, ReturnAdd, ReturnRemove}
-use Rattle.reader.specs.declared.record.Record.{Record}
-use Rattle.reader.specs.declared.record.Decoded.the-variants.{Found}
 
 -- A log that is read has at most 1,024 records, and a refusal a number from 1 to 10 and an index of at most 1,024.
 abbrev pub Within : Reading → Type 0
 Within (readable records) = length records ≤ maxRecords
 Within (refused number index) = (1 ≤ number) × (number ≤ removePending) × (index ≤ maxRecords)
 
--- every element is a byte
-abbrev pub Bytes : List ℕ → Type 0
-Bytes log = (i : ℕ) → getD log i 0 < 256
-
 -- the record with an index; behind the last one a call of remove, which tells of no return
 abbrev pub recordOf : List Record → ℕ → Record
 recordOf records i = getD records i (record { client = 0; tick = 0; event = CallRemove })
 
--- the bytes that a record takes, its length byte and L more
-abbrev pub sizeOf : Record → ℕ
-sizeOf r = 1 + lengthOf (kindOf (r .event))
-
+-- the bytes that records take
 unfoldable pub sizes : List Record → ℕ
 sizes [] = 0
 sizes (r ∷ records) = sizeOf r + sizes records
@@ -58,20 +51,6 @@ pub record Next (records : List Record) (i j : ℕ) : Type 0 where
   pub there : j < length records
   pub same : recordOf records j .client ≡ recordOf records i .client
   pub between : (k : ℕ) → i < k → k < j → recordOf records k .client ≡ recordOf records i .client → ⊥
-
--- the value of an event, 0 if it has none
-abbrev pub valueIn : Event → ℕ
-valueIn (CallAdd v) = v
-valueIn CallRemove = 0
-valueIn ReturnAdd = 0
-valueIn (ReturnRemove (Value v)) = v
-valueIn (ReturnRemove Empty) = 0
-
--- a record whose fields fit their bytes
-pub record Small (r : Record) : Type 0 where
-  pub client : r .client < 65536
-  pub tick : r .tick < 4294967296
-  pub value : valueIn (r .event) < 4294967296
 
 -- Records that can be written behind those of the past: their fields fit, and nothing is wrong with any of them.
 pub data Writable : List Record → List Record → Type 0 where

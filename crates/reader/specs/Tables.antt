@@ -5,13 +5,13 @@ use mathlib.Core.Bool.{not}
 use mathlib.Core.List.{List, [], _∷_, _++_, map, reverse}
 use lib.ListN.{length, getD, take, drop}
 use lib.Dec.{ltb, eqb}
-use Rattle.reader.specs.Choice.{if_then_else_}
+use Rattle.record.specs.Choice.{if_then_else_}
+use Rattle.record.specs.Refusal.{wrongBytes, wrongVersion, tooManyRecords, tickFell, clientBusy, noSuchCall, addedTwice}
+use Rattle.record.specs.declared.record.Event.{Event}
+use Rattle.record.specs.declared.record.Event.the-variants.{CallAdd, CallRemove, ReturnAdd, ReturnRemove}
+use Rattle.record.specs.declared.record.Record.{Record}
 use Rattle.reader.specs.Log.{logVersion, headerLength, maxRecords, countField, addCall, removeCall, Call, Reading, readable, refused, pendingCalls, addedValues, lastTick, operations, pendingRemove, isIn, fault, scan}
 use Rattle.reader.specs.Feed.{faultBehind}
-use Rattle.reader.specs.Refusal.{wrongBytes, wrongVersion, tooManyRecords, tickFell, clientBusy, noSuchCall, addedTwice}
-use Rattle.reader.specs.declared.record.Event.{Event}
-use Rattle.reader.specs.declared.record.Event.the-variants.{CallAdd, CallRemove, ReturnAdd, ReturnRemove}
-use Rattle.reader.specs.declared.record.Record.{Record}
 use Rattle.reader.specs.declared.scan.Progress.{Progress}
 use Rattle.reader.specs.declared.scan.Step.{Step}
 use Rattle.reader.specs.declared.scan.Step.the-variants.{Next, Stop}

@@ -6,14 +6,14 @@ ghost use Rattle.reader.specs.Feed.{extended};
 use crate::format::HEADER;
 use crate::format::MAX_RECORDS;
 use crate::format::VERSION;
-use crate::number::be16;
-use crate::refusal::REMOVE_PENDING;
-use crate::refusal::TOO_MANY_RECORDS;
-use crate::refusal::WRONG_BYTES;
-use crate::refusal::WRONG_VERSION;
 use crate::scan::Survey;
 use crate::scan::extend_records;
 use crate::scan::read_records;
+use record::number::be16;
+use record::refusal::REMOVE_PENDING;
+use record::refusal::TOO_MANY_RECORDS;
+use record::refusal::WRONG_BYTES;
+use record::refusal::WRONG_VERSION;
 
 // The answer of a check; of `check_partial`, readable means readable but for 10.
 pub enum Checked {

@@ -7,7 +7,6 @@ ghost use lib.ListN.{length};
 ghost use Rattle.reader.specs.Log.{headerLength, maxRecords, scan};
 ghost use Rattle.reader.specs.Feed.{extended};
 ghost use Rattle.reader.specs.Tables.{Room, Admitted, Stepped, Passed, FaultBehind, faultIn, surveyed};
-use crate::cursor::read_at;
 use crate::format::HEADER;
 use crate::format::MAX_RECORDS;
 use crate::log::Extension;
@@ -17,17 +16,18 @@ use crate::pending::begin_call;
 use crate::pending::earliest_remove;
 use crate::pending::end_call;
 use crate::pending::pending_kind;
-use crate::record::Decoded;
-use crate::record::Event;
-use crate::record::Record;
-use crate::refusal::ADDED_TWICE;
-use crate::refusal::CLIENT_BUSY;
-use crate::refusal::NO_SUCH_CALL;
-use crate::refusal::TICK_FELL;
-use crate::refusal::WRONG_BYTES;
 use crate::table::Table;
 use crate::table::contains;
 use crate::table::push;
+use record::cursor::read_at;
+use record::record::Decoded;
+use record::record::Event;
+use record::record::Record;
+use record::refusal::ADDED_TWICE;
+use record::refusal::CLIENT_BUSY;
+use record::refusal::NO_SUCH_CALL;
+use record::refusal::TICK_FELL;
+use record::refusal::WRONG_BYTES;
 
 // How far a scan has come: the offset of the next record, the last tick, how many calls are pending, how many values were
 // added and how many operations were called.

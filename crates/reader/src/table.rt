@@ -10,7 +10,7 @@ use crate::format::MAX_RECORDS;
 pub type Table = [u32; MAX_RECORDS];
 
 // Whether x is in the table. The loop runs to the end, so that it is done several entries at a time.
-pub fn contains(table: &Table, count: usize, x: u32) -> bool
+pub(crate) fn contains(table: &Table, count: usize, x: u32) -> bool
     requires { ⌜ Fits count (now table) ⌝ }
     ensures { λ r. ⌜ r ≡ isIn x (take count (now (table .entry))) ⌝ }
 {
@@ -26,7 +26,7 @@ pub fn contains(table: &Table, count: usize, x: u32) -> bool
 }
 
 // The index of the first x, or `count` where there is none.
-pub fn find(table: &Table, count: usize, x: u32) -> usize
+pub(crate) fn find(table: &Table, count: usize, x: u32) -> usize
     requires { ⌜ Fits count (now table) ⌝ }
     ensures { λ r. ⌜ r ≡ position x (take count (now (table .entry))) ⌝ }
 {

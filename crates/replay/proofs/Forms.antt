@@ -7,7 +7,7 @@ use mathlib.Core.List.{List}
 use lib.ListN.{length, getD}
 use lib.Dec.{ltb, eqb}
 use borrow.Author.Tests.{eqb-true, le-ltb, ne-eqb, eq-eqb}
-use Rattle.reader.specs.Choice.{if_then_else_}
+use Rattle.record.specs.Choice.{if_then_else_}
 use Rattle.history.specs.Sheet.{sheetHeader, sheetVersion, orderVerdict, listedField}
 use Rattle.replay.specs.Replay.{isOrderSheet}
 

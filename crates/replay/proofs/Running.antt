@@ -5,7 +5,7 @@ use mathlib.Core.Path.{_≡_, sym, _∙_}
 use mathlib.Core.Bool.{true}
 use mathlib.Core.List.{List}
 use lib.ListN.{length}
-use Rattle.reader.specs.Number.{bigEndian}
+use Rattle.record.specs.Number.{bigEndian}
 use Rattle.reader.specs.Log.{maxRecords}
 use Rattle.history.specs.History.{History}
 use Rattle.history.specs.Linearization.{Linearization}

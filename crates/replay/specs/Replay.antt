@@ -6,9 +6,9 @@ use mathlib.Core.Bool.{Bool, true, false, not}
 use mathlib.Core.List.{List}
 use lib.ListN.{length, getD}
 use lib.Dec.{ltb, eqb}
-use Rattle.reader.specs.Choice.{if_then_else_}
+use Rattle.record.specs.Choice.{if_then_else_}
+use Rattle.record.specs.declared.record.Record.{Record}
 use Rattle.reader.specs.Log.{Reading, readable, refused, readLog}
-use Rattle.reader.specs.declared.record.Record.{Record}
 use Rattle.history.specs.Linearization.{Linearization}
 use Rattle.history.specs.Operations.{historyOf}
 use Rattle.history.specs.Sheet.{sheetVersion, orderVerdict, sheetHeader, listedField, listedOn}

@@ -16,7 +16,7 @@ pub enum Replayed {
     Refused { number: u32, index: usize },
 }
 
-pub const WRONG_SHEET: u32 = 11;
+const WRONG_SHEET: u32 = 11;
 
 // Holds the order that a sheet lists against a log.
 pub fn replay(log: &[u8], sheet: &[u8]) -> Replayed

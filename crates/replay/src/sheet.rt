@@ -2,10 +2,10 @@
 ghost use mathlib.Core.Path.{_≡_};
 ghost use Prim.Native.Nat.{_+_, _*_, _≤_, _<_};
 ghost use lib.ListN.{length};
-ghost use Rattle.reader.specs.Number.{bigEndian};
+ghost use Rattle.record.specs.Number.{bigEndian};
 ghost use Rattle.history.specs.Sheet.{sheetHeader, listedField};
 ghost use Rattle.replay.specs.Replay.{isOrderSheet};
-use reader::number::be16;
+use record::number::be16;
 
 const VERSION: u8 = 1;
 

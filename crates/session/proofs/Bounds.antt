@@ -8,19 +8,19 @@ use lib.ListN.{length, getD}
 use lib.Dec.{ltb, leb, eqb}
 use lib.Seq.{length-take-le}
 use borrow.Author.Tests.{eqb-true, eqb-false}
-use Rattle.reader.specs.Choice.{if_then_else_}
-use Rattle.reader.specs.Buffer.{bufferTooShort, lacksRoom}
-use Rattle.reader.specs.Record.{decodeAt}
+use Rattle.record.specs.Choice.{if_then_else_}
+use Rattle.record.specs.Record.{decodeAt}
+use Rattle.record.specs.declared.record.Record.{Record}
+use Rattle.record.specs.declared.record.Decoded.{Decoded}
+use Rattle.record.specs.declared.record.Decoded.the-variants.{Found, Malformed}
+use Rattle.record.proofs.Records.{event-most}
+use Rattle.buffer.specs.Buffer.{bufferTooShort, lacksRoom}
 use Rattle.reader.specs.Log.{maxRecords, maxLength, Reading, readable, refused, readPartial}
 use Rattle.reader.specs.Feed.{isOneRecord, decodedFault, faultBehind, extended}
-use Rattle.reader.specs.declared.record.Record.{Record}
-use Rattle.reader.specs.declared.record.Decoded.{Decoded}
-use Rattle.reader.specs.declared.record.Decoded.the-variants.{Found, Malformed}
 use Rattle.reader.specs.declared.log.Extension.{Extension}
 use Rattle.reader.specs.declared.log.Extension.the-variants.{Unreadable, Full, Faulty, Fits}
 use Rattle.reader.proofs.Bounds.{Known, decode-known}
 use Rattle.reader.proofs.Bytes.{decode-inverts}
-use Rattle.reader.proofs.Records.{event-most}
 use Rattle.reader.proofs.Laws.{partial-log}
 use Rattle.session.specs.Session.{openStage, heldLog, stageRefusal, emptyLog, beginAnswer, fedAnswer, feedAnswer}
 use Rattle.session.specs.declared.answer.Answer.{Answer}
@@ -42,39 +42,39 @@ faultless-short past bytes z = go (isOneRecord bytes) refl z
 
 -- An accepted answer is the number of bytes of a record, or of the header, behind a log that is not too long; a refusal has a number and an index of
 -- at most 1,024.
-abbrev pub Within : ℕ → Answer → Type 0
-Within used (Accepted n) = (n ≤ 12) × (used ≤ maxLength)
-Within used (Refused number index) = (1 ≤ number) × (index ≤ maxRecords)
+abbrev pub AnswerWithin : ℕ → Answer → Type 0
+AnswerWithin used (Accepted n) = (n ≤ 12) × (used ≤ maxLength)
+AnswerWithin used (Refused number index) = (1 ≤ number) × (index ≤ maxRecords)
 
-pub begin-within : (buffer : List ℕ) → Within 0 (beginAnswer buffer)
+pub begin-within : (buffer : List ℕ) → AnswerWithin 0 (beginAnswer buffer)
 begin-within buffer = go (lacksRoom emptyLog buffer)
   where
-    go : (t : Bool) → Within 0 (if t then Refused bufferTooShort 0 else Accepted 3)
+    go : (t : Bool) → AnswerWithin 0 (if t then Refused bufferTooShort 0 else Accepted 3)
     go true = (omega arith, omega arith)
     go false = (omega arith, omega arith)
 
-pub feed-within : (stage used : ℕ) (buffer bytes : List ℕ) → Within used (feedAnswer stage used buffer bytes)
+pub feed-within : (stage used : ℕ) (buffer bytes : List ℕ) → AnswerWithin used (feedAnswer stage used buffer bytes)
 unfolding feedAnswer
 feed-within stage used buffer bytes = standing (eqb (stageRefusal openStage stage used buffer) 0) refl
   where
-    roomy : (lacks : Bool) (records : List Record) → faultBehind (reverse records) bytes ≡ 0 → used ≤ maxLength → Within used (if lacks then Refused bufferTooShort 0 else Accepted (length bytes))
+    roomy : (lacks : Bool) (records : List Record) → faultBehind (reverse records) bytes ≡ 0 → used ≤ maxLength → AnswerWithin used (if lacks then Refused bufferTooShort 0 else Accepted (length bytes))
     roomy true records z l = (omega arith, omega arith)
     roomy false records z l = (faultless-short (reverse records) bytes z, l)
 
     fits : (records : List Record) → length records ≤ maxRecords → used ≤ maxLength → (full fine : Bool) → eqb (faultBehind (reverse records) bytes) 0 ≡ fine
-        → Within used (fedAnswer (if full then Full else if not fine then Faulty (faultBehind (reverse records) bytes) (length records) else Fits (length records)) used buffer bytes)
+        → AnswerWithin used (fedAnswer (if full then Full else if not fine then Faulty (faultBehind (reverse records) bytes) (length records) else Fits (length records)) used buffer bytes)
     fits records few l true fine t = (omega arith, omega arith)
     fits records few l false false t = (omega (arith, eqb-false (faultBehind (reverse records) bytes) 0 t), few)
     fits records few l false true t = roomy (ltb (length buffer) (used + length bytes)) records (eqb-true (faultBehind (reverse records) bytes) 0 t) l
 
-    held : used ≤ length buffer → (reading : Reading) → readPartial (heldLog used buffer) ≡ reading → Within used (fedAnswer (extended reading bytes) used buffer bytes)
+    held : used ≤ length buffer → (reading : Reading) → readPartial (heldLog used buffer) ≡ reading → AnswerWithin used (fedAnswer (extended reading bytes) used buffer bytes)
     held within (refused number index) e = (omega arith, omega arith)
     held within (readable records) e =
         let whole = partial-log (heldLog used buffer) records e in
         fits records (whole .few) (omega (arith, whole .short, length-take-le used buffer within)) (leb maxRecords (length records)) (eqb (faultBehind (reverse records) bytes) 0) refl
 
     standing : (t : Bool) → eqb (stageRefusal openStage stage used buffer) 0 ≡ t
-        → Within used (if not t then Refused (stageRefusal openStage stage used buffer) 0 else fedAnswer (extended (readPartial (heldLog used buffer)) bytes) used buffer bytes)
+        → AnswerWithin used (if not t then Refused (stageRefusal openStage stage used buffer) 0 else fedAnswer (extended (readPartial (heldLog used buffer)) bytes) used buffer bytes)
     standing true t = held (unrefused-within openStage stage used buffer (eqb-true (stageRefusal openStage stage used buffer) 0 t)) (readPartial (heldLog used buffer)) refl
     standing false t = (omega (arith, eqb-false (stageRefusal openStage stage used buffer) 0 t), omega arith)
 
@@ -101,23 +101,23 @@ accepted-length stage used buffer bytes {n} e = standing (eqb (stageRefusal open
 pub accepted-small : (stage used : ℕ) (buffer bytes : List ℕ) {n : ℕ} → Accepted n ≡ feedAnswer stage used buffer bytes → (n ≤ 12) × (used ≤ maxLength)
 accepted-small stage used buffer bytes {n} e = go (rw (sym e) at (feed-within stage used buffer bytes))
   where
-    go : Within used (Accepted n) → (n ≤ 12) × (used ≤ maxLength)
+    go : AnswerWithin used (Accepted n) → (n ≤ 12) × (used ≤ maxLength)
     go small = small
 
 pub refused-small : (stage used : ℕ) (buffer bytes : List ℕ) {number index : ℕ} → Refused number index ≡ feedAnswer stage used buffer bytes → index ≤ maxRecords
 refused-small stage used buffer bytes {number} {index} e = go (rw (sym e) at (feed-within stage used buffer bytes))
   where
-    go : Within used (Refused number index) → index ≤ maxRecords
+    go : AnswerWithin used (Refused number index) → index ≤ maxRecords
     go small = small .1
 
 pub begun-small : (buffer : List ℕ) {n : ℕ} → Accepted n ≡ beginAnswer buffer → n ≤ 12
 begun-small buffer {n} e = go (rw (sym e) at (begin-within buffer))
   where
-    go : Within 0 (Accepted n) → n ≤ 12
+    go : AnswerWithin 0 (Accepted n) → n ≤ 12
     go small = small .0
 
 pub unbegun-small : (buffer : List ℕ) {number index : ℕ} → Refused number index ≡ beginAnswer buffer → index ≤ maxRecords
 unbegun-small buffer {number} {index} e = go (rw (sym e) at (begin-within buffer))
   where
-    go : Within 0 (Refused number index) → index ≤ maxRecords
+    go : AnswerWithin 0 (Refused number index) → index ≤ maxRecords
     go small = small .1

@@ -1,16 +1,16 @@
 -- What a session holds since it was begun, and the records of a log fed one after the other.
-use Prim.Native.Nat.{ℕ, _+_, _≤_}
+use Prim.Native.Nat.{ℕ, _≤_}
 use native.Mathlib.Omega.{arith}
 use mathlib.Core.Path.{_≡_, refl, sym, ap, _∙_, subst}
 use mathlib.Core.List.{List, [], _∷_, _++_, map, map-append, reverse, reverse-cons, append-assoc, append-nil}
 use lib.ListN.{length, drop, length-append, length-drop}
 use lib.Seq.{drop-drop}
 use borrow.Author.Tests.{le-ltb}
-use Rattle.reader.specs.Number.{bytesOf}
-use Rattle.reader.specs.Record.{encode}
+use Rattle.record.specs.Number.{bytesOf, Bytes}
+use Rattle.record.specs.Record.{encode, sizeOf, Small}
+use Rattle.record.specs.declared.record.Record.{Record}
 use Rattle.reader.specs.Log.{headerLength, maxRecords, Reading, readable, refused, readPartial, readLog, fault, encodeAll, encodeLog}
-use Rattle.reader.specs.Readable.{Bytes, sizeOf, sizes, Small, Writable}
-use Rattle.reader.specs.declared.record.Record.{Record}
+use Rattle.reader.specs.Readable.{sizes, Writable}
 use Rattle.reader.proofs.Bytes.{sizes-snoc}
 use Rattle.reader.proofs.Laws.{readable-is-partial, written-log}
 use Rattle.judge.specs.Judge.{Judges, turned-down}

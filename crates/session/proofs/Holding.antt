@@ -8,17 +8,18 @@ use lib.ListN.{length, drop, length-append}
 use lib.Dec.{ltb, leb, eqb}
 use lib.Seq.{take-append-seam, drop-append-add}
 use borrow.Author.Tests.{le-ltb, lt-leb, leb-false, eqb-true}
-use Rattle.reader.specs.Choice.{if_then_else_}
-use Rattle.reader.specs.Buffer.{bufferTooShort, put}
-use Rattle.reader.specs.Number.{bytesOf}
-use Rattle.reader.specs.Record.{encode}
+use Rattle.record.specs.Choice.{if_then_else_}
+use Rattle.record.specs.Number.{bytesOf, Bytes}
+use Rattle.record.specs.Record.{encode, sizeOf, Small}
+use Rattle.record.specs.declared.record.Record.{Record}
+use Rattle.record.proofs.Numbers.{number-there}
+use Rattle.record.proofs.Laws.{encode-length}
+use Rattle.buffer.specs.Buffer.{bufferTooShort, put}
 use Rattle.reader.specs.Log.{logVersion, maxRecords, countField, withCount, fault, readable, refused, readPartial, readLog, encodeAll, encodeLog}
 use Rattle.reader.specs.Feed.{faultBehind, extended}
-use Rattle.reader.specs.Readable.{Bytes, sizeOf, Small, Writable}
-use Rattle.reader.specs.declared.record.Record.{Record}
+use Rattle.reader.specs.Readable.{Writable}
 use Rattle.reader.specs.declared.log.Extension.the-variants.{Full, Faulty, Fits}
-use Rattle.reader.proofs.Laws.{written-log, faultless-is-record, record-is-faultless, writable-more, encode-snoc, encode-length}
-use Rattle.reader.proofs.Numbers.{number-there}
+use Rattle.reader.proofs.Laws.{written-log, faultless-is-record, record-is-faultless, writable-more, encode-snoc}
 use Rattle.judge.specs.Judge.{Judges, turned-down}
 use Rattle.judge.specs.declared.judge.Verdict.{Verdict}
 use Rattle.session.specs.Session.{openStage, closedStage, sessionClosed, stageClosed, heldLog, stageRefusal, sessionReading, fedAnswer, feedAnswer, fedBuffer, usedFed}

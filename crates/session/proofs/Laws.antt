@@ -5,11 +5,11 @@ use mathlib.Core.Path.{_≡_, refl, sym, ap, _∙_}
 use mathlib.Core.List.{List, [], _++_, map}
 use lib.ListN.{length, take, drop, length-append, length-drop}
 use lib.Seq.{take-append-seam, drop-append-seam, drop-drop}
-use Rattle.reader.specs.Number.{bytesOf}
-use Rattle.reader.specs.Record.{encode}
+use Rattle.record.specs.Number.{bytesOf, Bytes}
+use Rattle.record.specs.Record.{encode, sizeOf}
+use Rattle.record.specs.declared.record.Record.{Record}
 use Rattle.reader.specs.Log.{headerLength, Reading, readable, readPartial, readLog, encodeAll, encodeLog}
-use Rattle.reader.specs.Readable.{Bytes, sizeOf, sizes}
-use Rattle.reader.specs.declared.record.Record.{Record}
+use Rattle.reader.specs.Readable.{sizes}
 use Rattle.reader.proofs.Laws.{partial-log, written-log}
 use Rattle.judge.specs.Judge.{sheetBytes, Judges}
 use Rattle.judge.specs.declared.judge.Verdict.{Verdict}

@@ -8,12 +8,12 @@ use lib.ListN.{length, set, take, drop}
 use lib.Dec.{ltb, leb, eqb}
 use lib.Seq.{length-take-le, getD-take, sets-eq}
 use borrow.Author.Tests.{lt-ltb, le-ltb, eq-eqb, ne-eqb, ltb-false, leb-false, eqb-true}
-use Rattle.reader.specs.Choice.{if_then_else_}
-use Rattle.reader.specs.Buffer.{bufferTooShort, put}
-use Rattle.reader.specs.Number.{bigEndian, bytesOf}
+use Rattle.record.specs.Choice.{if_then_else_}
+use Rattle.record.specs.Number.{bigEndian, bytesOf}
+use Rattle.record.specs.declared.record.Record.{Record}
+use Rattle.buffer.specs.Buffer.{bufferTooShort, put}
 use Rattle.reader.specs.Log.{logVersion, headerLength, maxRecords, countField, withCount, Reading, readable, refused, readPartial, readLog, checked}
 use Rattle.reader.specs.Feed.{faultBehind, extended}
-use Rattle.reader.specs.declared.record.Record.{Record}
 use Rattle.reader.specs.declared.log.Extension.{Extension}
 use Rattle.reader.specs.declared.log.Extension.the-variants.{Full, Faulty, Fits}
 use Rattle.reader.proofs.Laws.{partial-log}

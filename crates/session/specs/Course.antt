@@ -4,10 +4,9 @@ use Prim.Native.Nat.{ℕ, _≤_}
 use mathlib.Core.Path.{_≡_}
 use mathlib.Core.List.{List, [], _∷_, _++_}
 use lib.ListN.{length, drop}
-use Rattle.reader.specs.Number.{bytesOf}
+use Rattle.record.specs.Number.{bytesOf, Bytes}
+use Rattle.record.specs.declared.record.Record.{Record}
 use Rattle.reader.specs.Log.{logVersion, headerLength, readable, readPartial, readLog}
-use Rattle.reader.specs.Readable.{Bytes}
-use Rattle.reader.specs.declared.record.Record.{Record}
 use Rattle.judge.specs.Judge.{Judges}
 use Rattle.judge.specs.declared.judge.Verdict.{Verdict}
 use Rattle.session.specs.Session.{openStage, closedStage, heldLog, sessionReading, emptyLog, beginLeaves, feedAnswer, feedLeaves, usedFed, stageClosed}

@@ -5,8 +5,8 @@ use mathlib.Core.Bool.{Bool, true, false, not}
 use mathlib.Core.List.{List, [], _∷_}
 use lib.ListN.{length, take}
 use lib.Dec.{ltb, eqb}
-use Rattle.reader.specs.Choice.{if_then_else_}
-use Rattle.reader.specs.Buffer.{bufferTooShort, lacksRoom, written, put}
+use Rattle.record.specs.Choice.{if_then_else_}
+use Rattle.buffer.specs.Buffer.{bufferTooShort, lacksRoom, written, put}
 use Rattle.reader.specs.Log.{countField, withCount, Reading, refused, readPartial, readLog, checked}
 use Rattle.reader.specs.Feed.{extended}
 use Rattle.reader.specs.declared.log.Checked.{Checked}

@@ -49,7 +49,7 @@ fn fits(stage: u32, used: u32, buf: &[u8]) -> bool
 }
 
 // Refusals 25, and 20 or 22: why nothing can be asked of a session that has to be in the wanted stage, 0 for no reason.
-pub fn stage_refusal(wanted: u32, stage: u32, used: u32, buf: &[u8]) -> u32
+pub(crate) fn stage_refusal(wanted: u32, stage: u32, used: u32, buf: &[u8]) -> u32
     ensures { λ r. ⌜ r ≡ stageRefusal wanted stage used (now (buf .entry)) ⌝ }
 {
     if !fits(stage, used, buf) {

@@ -12,7 +12,7 @@ use Rattle.history.specs.Table.{Agree}
 use Rattle.history.proofs.Agreeing.{agree-sym, agree-linearization}
 use Rattle.violations.specs.Violations.{Is, RemoveOf, Removed, Unknown, Twice, Early, Stuck, Overtaken, Gap, Reaches, removed, never, Covers, Covered, AllCovered, Furthest, Chain, all, link, FalseEmpty, Occurs, unknown, twice, early, stuck, overtaken, falseEmpty}
 use Rattle.violations.specs.Verdict.{FirstViolation, JudgedLinearization, Verdict}
-use Rattle.violations.specs.Search.{Due, Left, Enabled, Safe, Serves, enqueues, dequeues, meets-empty, Placeable, LastGap, Continues, ends, places, Found}
+use Rattle.violations.specs.Found.{Due, Left, Enabled, Safe, Serves, enqueues, dequeues, meets-empty, Placeable, LastGap, Continues, ends, places, Found}
 use Rattle.violations.proofs.Lists.{listed-none, listed-either, listed-here, listed-behind}
 
 -- an operation of one is an operation of the other

@@ -11,7 +11,7 @@ use Rattle.history.specs.History.{History, add, emptyRemove}
 use Rattle.history.specs.Linearization.{placed}
 use Rattle.history.proofs.Deciding.{equivalent?}
 use Rattle.violations.specs.Violations.{Is, RemoveOf, Gap, Reaches, removed, never, Covers, Covered, AllCovered, Furthest, Chain, all, link, FalseEmpty}
-use Rattle.violations.specs.Search.{LastGap}
+use Rattle.violations.specs.Found.{LastGap}
 use Rattle.violations.proofs.Choosing.{Best, best, greater, Ahead, ahead-at-least, ahead-of-less, ahead}
 use Rattle.violations.proofs.Operations.{is?, remove-of?}
 

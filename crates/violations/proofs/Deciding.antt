@@ -10,7 +10,7 @@ use Rattle.history.specs.History.{History, add, emptyRemove}
 use Rattle.history.proofs.Deciding.{all-below?, implies?, equivalent?, listed?, linearization?, some?, either?}
 use Rattle.violations.specs.Violations.{Is, RemoveOf, Unknown, Twice, Early, Stuck, Overtaken, AllCovered, FalseEmpty, Occurs, unknown, twice, early, stuck, overtaken, falseEmpty, NoViolation}
 use Rattle.violations.specs.Verdict.{FirstViolation, JudgedLinearization}
-use Rattle.violations.specs.Search.{LastGap}
+use Rattle.violations.specs.Found.{LastGap}
 use Rattle.violations.proofs.Chains.{chain-one, false-empty, last-gap}
 use Rattle.violations.proofs.Occurrences.{OfKinds, kindsOf, occurs-of-kinds, occurs-numbered}
 use Rattle.violations.proofs.Lowest.{Compared, lower-total, same?, LowestList, Sought, only-lowest, LowestPair, lowest-pair, lowest-cons}

@@ -13,7 +13,8 @@ use Rattle.history.specs.Table.{Agree}
 use Rattle.history.proofs.Deciding.{all-below?, implies?, equivalent?}
 use Rattle.violations.specs.Violations.{Is, RemoveOf, Reaches, removed, never, AllCovered, falseEmpty, NoViolation}
 use Rattle.violations.specs.Verdict.{JudgedLinearization}
-use Rattle.violations.specs.Search.{Single, Sound, Left, Enabled, Safe, Serves, enqueues, dequeues, meets-empty, Placeable, Searched, LastGap, Continues, ends, places, Found}
+use Rattle.violations.specs.Search.{Single, Sound, Searched}
+use Rattle.violations.specs.Found.{Left, Enabled, Safe, Serves, enqueues, dequeues, meets-empty, Placeable, LastGap, Continues, ends, places, Found}
 use Rattle.violations.proofs.Lists.{snoc, listed-none}
 use Rattle.violations.proofs.Operations.{is?, remove-of?}
 use Rattle.violations.proofs.Chains.{reach-of, false-empty, last-gap}

@@ -11,7 +11,8 @@ use Rattle.history.specs.Linearization.{Linearization}
 use Rattle.history.specs.Sheet.{orderVerdict}
 use Rattle.violations.specs.Violations.{NoViolation}
 use Rattle.violations.specs.Verdict.{FirstViolation, JudgedLinearization, Verdict}
-use Rattle.violations.specs.Search.{Single, Found}
+use Rattle.violations.specs.Search.{Single}
+use Rattle.violations.specs.Found.{Found}
 use Rattle.violations.proofs.Occurrences.{occurs-numbered}
 -- "The lowest number that occurs is reported. Among its occurrences the lowest list": there is such an answer where a pattern
 -- occurs, and two answers that meet this are equal.

@@ -13,7 +13,7 @@ use Rattle.history.specs.Linearization.{placed}
 use Rattle.history.proofs.Counting.{partners-are-few}
 use Rattle.violations.specs.Violations.{Is, RemoveOf, Removed, FalseEmpty, Occurs, unknown, twice, early, stuck, overtaken, falseEmpty}
 use Rattle.violations.specs.Verdict.{JudgedLinearization, Verdict}
-use Rattle.violations.specs.Search.{Due}
+use Rattle.violations.specs.Found.{Due}
 use Rattle.violations.proofs.Operations.{is-returned, same-adder}
 use Rattle.violations.proofs.Chains.{chain-linked, chain-once}
 

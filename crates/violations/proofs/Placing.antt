@@ -12,7 +12,8 @@ use Rattle.history.specs.Linearization.{Makes, puts, takes, meets, done, then, 
 use Rattle.history.proofs.Deciding.{listed?}
 use Rattle.violations.specs.Violations.{Is, RemoveOf, Removed}
 use Rattle.violations.specs.Verdict.{JudgedLinearization}
-use Rattle.violations.specs.Search.{Single, Due, Left, Safe, Serves, enqueues, dequeues, meets-empty, Placeable, Queued, Searched}
+use Rattle.violations.specs.Search.{Single, Queued, Searched}
+use Rattle.violations.specs.Found.{Due, Left, Safe, Serves, enqueues, dequeues, meets-empty, Placeable}
 use Rattle.violations.proofs.Lists.{snoc, listed-none, listed-old, listed-new, listed-either, each-snoc, pairs-snoc, listed-behind, listed-first, listed-here}
 use Rattle.violations.proofs.Operations.{is-returned, same-adder}
 

@@ -10,7 +10,8 @@ use Rattle.history.specs.History.{History, add, remove, emptyRemove, Lawful}
 use Rattle.history.specs.Linearization.{Listed}
 use Rattle.history.proofs.Deciding.{equivalent?, listed?, either?}
 use Rattle.violations.specs.Violations.{Is, RemoveOf, Reaches, removed, never}
-use Rattle.violations.specs.Search.{Matched, Sound, Due, Left, Enabled, enqueues, dequeues, meets-empty, Placeable, Queued, Searched}
+use Rattle.violations.specs.Search.{Matched, Sound, Queued, Searched}
+use Rattle.violations.specs.Found.{Due, Left, Enabled, enqueues, dequeues, meets-empty, Placeable}
 use Rattle.violations.proofs.Lists.{listed-first, listed-here}
 use Rattle.violations.proofs.Choosing.{Best, best-of, lesser}
 use Rattle.violations.proofs.Placing.{left-alone}

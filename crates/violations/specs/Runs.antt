@@ -3,8 +3,8 @@
 -- a verdict, the rest have several occurrences, ties or open adds. What a run and a row are is said in the crate history.
 use Prim.Native.Nat.{ℕ}
 use mathlib.Core.List.{List, [], _∷_}
-use Rattle.reader.specs.declared.record.Removed.the-variants.{Value, Empty}
-use Rattle.reader.specs.declared.record.Event.the-variants.{CallAdd, CallRemove, ReturnAdd, ReturnRemove}
+use Rattle.record.specs.declared.record.Removed.the-variants.{Value, Empty}
+use Rattle.record.specs.declared.record.Event.the-variants.{CallAdd, CallRemove, ReturnAdd, ReturnRemove}
 use Rattle.history.specs.History.{History}
 use Rattle.history.specs.Runs.{Row}
 use Rattle.violations.specs.Verdict.{FirstViolation, JudgedLinearization}

@@ -9,20 +9,21 @@ use mathlib.Core.List.{List, [], _++_}
 use lib.ListN.{length, drop}
 use lib.Dec.{eqb}
 use borrow.Author.Tests.{eqb-false}
-use Rattle.reader.specs.Choice.{if_then_else_}
-use Rattle.reader.specs.Buffer.{bufferTooShort, lacksRoom}
+use Rattle.record.specs.Choice.{if_then_else_}
+use Rattle.record.specs.Number.{Bytes}
+use Rattle.record.specs.declared.record.Record.{Record}
+use Rattle.buffer.specs.Buffer.{bufferTooShort, lacksRoom}
 use Rattle.reader.specs.Log.{maxRecords, maxLength, Reading, readable, refused, readLog, checked, operations, encodeLog}
-use Rattle.reader.specs.Readable.{Within, Bytes}
-use Rattle.reader.specs.declared.record.Record.{Record}
+use Rattle.reader.specs.Readable.{Within}
 use Rattle.reader.specs.declared.log.Checked.the-variants as check
 use Rattle.reader.proofs.Laws.{within, checked-refused, few-operations}
+use Rattle.history.specs.Operations.{historyOf}
+use Rattle.violations.specs.Violations.{NoViolation}
+use Rattle.violations.proofs.Laws.{SomeViolation, first-violation}
 use Rattle.replay.specs.Replay.{replayed, ListsLinearization, ListsOther}
 use Rattle.replay.specs.declared.replay.Replayed.{Replayed}
 use Rattle.replay.specs.declared.replay.Replayed.the-variants as replay
 use Rattle.replay.proofs.Laws.{yes-is-legal, legal-is-yes, no-is-other, other-is-no, replay-within}
-use Rattle.history.specs.Operations.{historyOf}
-use Rattle.violations.specs.Violations.{NoViolation}
-use Rattle.violations.proofs.Laws.{SomeViolation, first-violation}
 use Rattle.judge.specs.Judge as Judge
 use Rattle.judge.specs.Judge.{sheetBytes, Judges}
 use Rattle.judge.specs.declared.judge.Verdict.{Verdict}

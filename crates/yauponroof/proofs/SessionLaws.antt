@@ -7,12 +7,12 @@ use mathlib.Core.List.{List, [], _∷_, _++_, map}
 use lib.ListN.{length, take, drop}
 use lib.Dec.{eqb}
 use borrow.Author.Tests.{eqb-false}
-use Rattle.reader.specs.Choice.{if_then_else_}
-use Rattle.reader.specs.Buffer.{bufferTooShort, lacksRoom, put}
-use Rattle.reader.specs.Record.{encode}
+use Rattle.record.specs.Choice.{if_then_else_}
+use Rattle.record.specs.Record.{encode, sizeOf}
+use Rattle.record.specs.Number.{Bytes}
+use Rattle.record.specs.declared.record.Record.{Record}
+use Rattle.buffer.specs.Buffer.{bufferTooShort, lacksRoom, put}
 use Rattle.reader.specs.Log.{headerLength, countField, withCount, Reading, refused, readable, readPartial, readLog}
-use Rattle.reader.specs.Readable.{Bytes, sizeOf}
-use Rattle.reader.specs.declared.record.Record.{Record}
 use Rattle.judge.specs.Judge as Judge
 use Rattle.judge.specs.Judge.{sheetBytes, Judges}
 use Rattle.judge.specs.declared.judge.Verdict.{Verdict}
@@ -25,7 +25,7 @@ use Rattle.session.specs.Course.{Lent, begun, answerTo, afterFeed, afterClose, 
 use Rattle.session.specs.declared.answer.Answer.{Answer}
 use Rattle.session.specs.declared.answer.Answer.the-variants as session
 use Rattle.session.proofs.Feeding.{begun-holds}
-use Rattle.session.proofs.Bounds.{accepted-length, Within, feed-within}
+use Rattle.session.proofs.Bounds.{accepted-length, AnswerWithin, feed-within}
 use Rattle.session.proofs.Laws.{feeds-are, begin-accepted, feeds-accepted, fed-since, feeding-is-judging, sheet-is-judging, excerpt-is}
 use Rattle.yauponroof.specs.Answer.{judgeAnswer, JudgeAnswers, projectionAnswer}
 use Rattle.yauponroof.specs.Session.{writingAnswer, BeginAnswers, FeedAnswers, CloseAnswers, SheetAnswers, ExcerptAnswers, FeedsAnswer, none, more}
@@ -55,7 +55,7 @@ pub data FeedSays (stage used : ℕ) (buffer bytes : List ℕ) (stage' used' : �
 pub feed-says : {stage used stage' used' answer : ℕ} {buffer bytes buffer' : List ℕ} → FeedAnswers stage used buffer bytes stage' used' buffer' answer → FeedSays stage used buffer bytes stage' used' buffer' answer
 feed-says {stage} {used} {stage'} {used'} {answer} {buffer} {bytes} {buffer'} a = go (feedAnswer stage used buffer bytes) refl (feed-within stage used buffer bytes) (a .answers) (a .used-is) (a .leaves)
   where
-    go : (given : Answer) → feedAnswer stage used buffer bytes ≡ given → Within used given → answer ≡ writingAnswer given → used' ≡ usedFed used given → buffer' ≡ fedBuffer given used buffer bytes
+    go : (given : Answer) → feedAnswer stage used buffer bytes ≡ given → AnswerWithin used given → answer ≡ writingAnswer given → used' ≡ usedFed used given → buffer' ≡ fedBuffer given used buffer bytes
         → FeedSays stage used buffer bytes stage' used' buffer' answer
     go (session.Accepted n) is small e u b =
         let all : n ≡ length bytes = accepted-length stage used buffer bytes is in

@@ -55,11 +55,11 @@ abbrev pub slice-val : RefT (List ℕ) → Val
 slice-val s = sliceVal (s .ptr) (length (s .now))
 
 -- the fields fit their types, and a machine value of what fits is well typed
-abbrev pub Fits : Session → Type 0
-Fits h = (h .stage < 2 ^ 32) × (h .used < 2 ^ 32)
+abbrev pub SessionFits : Session → Type 0
+SessionFits h = (h .stage < 2 ^ 32) × (h .used < 2 ^ 32)
 
 abbrev pub TurnFits : Turn → Type 0
-TurnFits t = Fits (left t) × (t .answer < 2 ^ 64)
+TurnFits t = SessionFits (left t) × (t .answer < 2 ^ 64)
 
 pub turn-typed : (t : Turn) → TurnFits t → WT (turn-val t)
 turn-typed t fits = (record { fits = fits .0 .0 }, (record { fits = fits .0 .1 }, (record { fits = fits .1 }, tt)))
@@ -79,10 +79,10 @@ abbrev Cell : ℕ → ℕ → Session → Fml
 Cell b o h = cellAt fullShare (SessionT .mir) (session-val h ∷ []) b o
 
 -- what whoever holds a struct knows of its fields, and what whoever makes a session shows of them
-session-fits : (h : Session) → Is SessionT h (session-val h ∷ []) → Fits h
+session-fits : (h : Session) → Is SessionT h (session-val h ∷ []) → SessionFits h
 session-fits h is = let fields = LL.owed T.the-type T′.the-laws h _ is in (fields .0 .1, fields .1 .0 .1)
 
-session-made : (h : Session) → Fits h → Is SessionT h (session-val h ∷ [])
+session-made : (h : Session) → SessionFits h → Is SessionT h (session-val h ∷ [])
 session-made h fits = LL.owes T.the-type T′.the-laws h ((refl, fits .0), ((refl, fits .1), tt))
 
 turn-fits : (t : Turn) (u : Val) → Is S.the-row t (u ∷ []) → TurnFits t
@@ -91,21 +91,21 @@ turn-fits t u is = let fields = LL.owed S.the-type S′.the-laws t _ is in ((fie
 module _ {M : Type 1} {𝓤 : URA M} {H : Heap 𝓤} {A : Atoms 𝓤} {K : Type 0} {W : Given 𝓤 H A} {Γ : List (Item 𝓤)} {G : Goal 𝓤 H} where
   -- the borrow is opened: the session's cell is had, and its fields fit
   pub session-opens : K → Soaks G → {κ : Lft} {q : Share} {γ : GName} (h : Session) (b o : ℕ)
-      → (Fits h → Seq K W (‵ (Cell b o h) ∷ ‵ (fobor κ q (Body (mem SessionT) b o γ)) ∷ ‵ (fobs γ (SessionT .coded .code h)) ∷ ‵ (fauth γ (SessionT .coded .code h)) ∷ Γ) G)
+      → (SessionFits h → Seq K W (‵ (Cell b o h) ∷ ‵ (fobor κ q (Body (mem SessionT) b o γ)) ∷ ‵ (fobs γ (SessionT .coded .code h)) ∷ ‵ (fauth γ (SessionT .coded .code h)) ∷ Γ) G)
       → Seq K W (‵ (Borrowed κ b o γ h) ∷ ‵ (flft κ q) ∷ Γ) G
   session-opens t z h b o k =
       fsplit3 t $ drop t $ opens t z SessionT {h = h} b o (λ vs. spelt t SessionT (Is SessionT) (shows 𝓤 H A SessionT) (LL.vals T.the-type T′.the-laws) (LL.tells T.the-type T′.the-laws) fullShare h vs b o $
       move t (1 ∷ []) $ facts t SessionT (Is SessionT) (shows 𝓤 H A SessionT) h (session-val h ∷ []) (λ is. k (session-fits h is)))
 
   -- the borrow is closed at the session that the cell now holds
-  pub session-closes : K → Soaks G → {κ : Lft} {q : Share} {γ : GName} {u v : Gv} (h : Session) → Fits h → (b o : ℕ)
+  pub session-closes : K → Soaks G → {κ : Lft} {q : Share} {γ : GName} {u v : Gv} (h : Session) → SessionFits h → (b o : ℕ)
       → Step K W (‵ (Borrowed κ b o γ h) ∷ ‵ (flft κ q) ∷ Γ) G (‵ (Cell b o h) ∷ ‵ (fobor κ q (Body (mem SessionT) b o γ)) ∷ ‵ (fobs γ u) ∷ ‵ (fauth γ v) ∷ Γ) G
   session-closes t z h fits b o =
       step (λ s. owned t SessionT (Is SessionT) (LL.makes T.the-type T′.the-plain 𝓤 H A) h _ (session-made h fits) $ move t (1 ∷ 0 ∷ []) $ closes t z SessionT h (session-val h ∷ []) b o $
       feqI t (List Val) (vptr b o ∷ []) (vptr b o ∷ []) refl $ fjoin3 t $ s)
 
   -- the session's two numbers are put in front of what a callee's other parameters own
-  pub session-passes : K → (h : Session) → Fits h → {P : Fml} → Step K W (‵ (fsep (u32 .own (h .stage) (vint w32 (h .stage) ∷ [])) (fsep (u32 .own (h .used) (vint w32 (h .used) ∷ [])) P)) ∷ Γ) G (‵ P ∷ Γ) G
+  pub session-passes : K → (h : Session) → SessionFits h → {P : Fml} → Step K W (‵ (fsep (u32 .own (h .stage) (vint w32 (h .stage) ∷ [])) (fsep (u32 .own (h .used) (vint w32 (h .used) ∷ [])) P)) ∷ Γ) G (‵ P ∷ Γ) G
   session-passes t h fits =
       step (λ s. owned t u32 (Is u32) (uint-makes 𝓤 H A W w32) (h .used) _ (refl, fits .1) $ fjoin t $ owned t u32 (Is u32) (uint-makes 𝓤 H A W w32) (h .stage) _ (refl, fits .0) $ fjoin t $ s)
 

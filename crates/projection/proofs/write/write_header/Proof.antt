@@ -4,7 +4,7 @@ use Rattle.projection.proofs.write.write_header.Statement.{statement}
 use Rattle.projection.proofs.write.write_header.Tie as tie
 use native.Mathlib.Omega.{arith}
 use lib.ListN.{length-set}
-use Rattle.projection.proofs.Copying.{header-put}
+use Rattle.projection.proofs.Writing.{header-put}
 
 slice-write-out : tie.Need-slice-write-out
 slice-write-out c = search needs

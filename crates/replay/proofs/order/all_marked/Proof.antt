@@ -3,7 +3,6 @@ use Rattle.replay.proofs.order.all_marked.Statement.{statement}
 use Rattle.replay.proofs.order.all_marked.Tie as tie
 use Prim.Native.Nat.{ℕ, _-_, _<_, _≤_}
 use native.Mathlib.Omega.{arith}
-use Rattle.history.specs.Table.{tabled}
 use Rattle.replay.specs.Trial.{ReturnIsMarked}
 use Rattle.history.proofs.Basics.{up-to}
 use borrow.Author.Tests.{not-true, not-false}

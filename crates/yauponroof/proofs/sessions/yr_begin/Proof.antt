@@ -37,7 +37,7 @@ use denote.Triple.Walked.{says, Stays, stay-ref, gave-slice, walkOf, goes-ref, g
 use Rattle.session.specs.declared.session.Session.{Session}
 use Rattle.yauponroof.specs.Session.{BeginAnswers}
 use Rattle.yauponroof.specs.declared.sessions.Turn.{Turn}
-use Rattle.yauponroof.proofs.Turns.{SessionT, left, at-session, Borrowed, Fits, slice-val, slice-typed, turn-typed, session-opens, session-closes, session-passes, calls-turn, list-lasts}
+use Rattle.yauponroof.proofs.Turns.{SessionT, left, at-session, Borrowed, SessionFits, slice-val, slice-typed, turn-typed, session-opens, session-closes, session-passes, calls-turn, list-lasts}
 use Rattle.yauponroof.proofs.sessions.begin_turn as begin-turn
 use Rattle.yauponroof.proofs.sessions.begin_turn.Symbol as begin-turn-def
 use Rattle.yauponroof.proofs.sessions.begin_turn.Symbol.{name as #begin-turn}
@@ -76,7 +76,7 @@ module _ {M : Type 1} (𝓤 : URA M) (H : Heap 𝓤) (A : Atoms 𝓤) (W : Given
   abbrev to : BeginTurn 𝓤 H A mem run .Ghost
   to = ((κs, qs, tt, y, (vint w32 (h .stage) ∷ [], (vint w32 (h .used) ∷ [], vals .1))), tt)
 
-  goes : Fits h → ent 𝓤 (⋆ 𝓤 H A (Toks ∷ ‵ (owns (MutSlice (named 1) (κs .0) u8 ∷ []) (buf, tt) (slice-val buf ∷ [], tt)) ∷ [])) (BeginTurn 𝓤 H A mem run .pre to)
+  goes : SessionFits h → ent 𝓤 (⋆ 𝓤 H A (Toks ∷ ‵ (owns (MutSlice (named 1) (κs .0) u8 ∷ []) (buf, tt) (slice-val buf ∷ [], tt)) ∷ [])) (BeginTurn 𝓤 H A mem run .pre to)
   goes fits = qed W (Toks ∷ ‵ (owns (MutSlice (named 1) (κs .0) u8 ∷ []) (buf, tt) (slice-val buf ∷ [], tt)) ∷ []) ∵ move ! (1 ∷ []) $ session-passes ! h fits $ move ! (1 ∷ 0 ∷ []) $ join ! $ frame ! $ done !
 
   abbrev Said : Turn → List ℕ → Type 0

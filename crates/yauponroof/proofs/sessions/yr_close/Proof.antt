@@ -38,7 +38,7 @@ use denote.Exit.{yes}
 use Rattle.session.specs.declared.session.Session.{Session}
 use Rattle.yauponroof.specs.Session.{CloseAnswers}
 use Rattle.yauponroof.specs.declared.sessions.Turn.{Turn}
-use Rattle.yauponroof.proofs.Turns.{SessionT, left, at-session, Borrowed, Fits, slice-val, slice-typed, turn-typed, session-opens, session-closes, session-passes, calls-turn, list-lasts}
+use Rattle.yauponroof.proofs.Turns.{SessionT, left, at-session, Borrowed, SessionFits, slice-val, slice-typed, turn-typed, session-opens, session-closes, session-passes, calls-turn, list-lasts}
 use Rattle.yauponroof.proofs.sessions.close_turn as close-turn
 use Rattle.yauponroof.proofs.sessions.close_turn.Symbol as close-turn-def
 use Rattle.yauponroof.proofs.sessions.close_turn.Symbol.{name as #close-turn}
@@ -83,7 +83,7 @@ module _ {M : Type 1} (𝓤 : URA M) (H : Heap 𝓤) (A : Atoms 𝓤) (W : Given
   abbrev to : CloseTurn 𝓤 H A mem run .Ghost
   to = ((κs, qs, tt, y, (vint w32 (h .stage) ∷ [], (vint w32 (h .used) ∷ [], vals .1))), tt)
 
-  goes : Fits h → ent 𝓤 (⋆ 𝓤 H A (Toks ∷ ‵ Slices ∷ [])) (sep 𝓤 (CloseTurn 𝓤 H A mem run .pre to) (sem 𝓤 H A Buf))
+  goes : SessionFits h → ent 𝓤 (⋆ 𝓤 H A (Toks ∷ ‵ Slices ∷ [])) (sep 𝓤 (CloseTurn 𝓤 H A mem run .pre to) (sem 𝓤 H A Buf))
   goes fits =
       qed W (Toks ∷ ‵ Slices ∷ []) ∵ move ! (1 ∷ []) $ fsplit ! $ use1 W (‵ Buf ⊛ ‵ Buf) (shr-slice-copy 𝓤 H A W (named 1) (κs .0) u8 .twice buf (slice-val buf ∷ [])) $ split ! $
       -- [what buf owns; the same; what sheet owns; the tokens]

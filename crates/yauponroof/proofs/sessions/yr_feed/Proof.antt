@@ -38,7 +38,7 @@ use denote.Exit.{yes}
 use Rattle.session.specs.declared.session.Session.{Session}
 use Rattle.yauponroof.specs.Session.{FeedAnswers}
 use Rattle.yauponroof.specs.declared.sessions.Turn.{Turn}
-use Rattle.yauponroof.proofs.Turns.{SessionT, left, at-session, Borrowed, Fits, slice-val, slice-typed, turn-typed, session-opens, session-closes, session-passes, calls-turn, list-lasts}
+use Rattle.yauponroof.proofs.Turns.{SessionT, left, at-session, Borrowed, SessionFits, slice-val, slice-typed, turn-typed, session-opens, session-closes, session-passes, calls-turn, list-lasts}
 use Rattle.yauponroof.proofs.sessions.feed_turn as feed-turn
 use Rattle.yauponroof.proofs.sessions.feed_turn.Symbol as feed-turn-def
 use Rattle.yauponroof.proofs.sessions.feed_turn.Symbol.{name as #feed-turn}
@@ -83,7 +83,7 @@ module _ {M : Type 1} (𝓤 : URA M) (H : Heap 𝓤) (A : Atoms 𝓤) (W : Given
   abbrev to : FeedTurn 𝓤 H A mem run .Ghost
   to = ((κs, qs, tt, y, (vint w32 (h .stage) ∷ [], (vint w32 (h .used) ∷ [], vals .1))), tt)
 
-  goes : Fits h → ent 𝓤 (⋆ 𝓤 H A (Toks ∷ ‵ Slices ∷ [])) (sep 𝓤 (FeedTurn 𝓤 H A mem run .pre to) (sem 𝓤 H A Bytes))
+  goes : SessionFits h → ent 𝓤 (⋆ 𝓤 H A (Toks ∷ ‵ Slices ∷ [])) (sep 𝓤 (FeedTurn 𝓤 H A mem run .pre to) (sem 𝓤 H A Bytes))
   goes fits =
       qed W (Toks ∷ ‵ Slices ∷ []) ∵ move ! (1 ∷ []) $ fsplit ! $ move ! (1 ∷ []) $ fsplit ! $ use1 W (‵ Bytes ⊛ ‵ Bytes) (shr-slice-copy 𝓤 H A W (named 2) (κs .1 .0) u8 .twice bytes (slice-val bytes ∷ [])) $ split ! $
       -- [what bytes owns; the same; true; what buf owns; the tokens]

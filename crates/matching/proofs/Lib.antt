@@ -1,0 +1,7 @@
+pub mod Firsts
+pub mod Holding
+pub mod Matching
+pub mod Partnering
+pub mod Reaching
+pub mod Storing
+pub mod Telling

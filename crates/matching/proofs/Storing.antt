@@ -1,0 +1,27 @@
+-- Tables of numbers: a number is stored, and a new table.
+use Prim.Native.Nat.{ℕ, _+_, _<_}
+use native.Mathlib.Omega.{arith}
+use native.Mathlib.Decide.{ℕ-discrete}
+use mathlib.Core.Path.{_≡_}
+use mathlib.Core.List.{List}
+use lib.ListN.{length, getD, set, replicate, length-replicate}
+use lib.Seq.{getD-set-same, getD-set-other}
+use Rattle.reader.specs.Log.{maxRecords}
+use Rattle.history.proofs.Basics.{zeros}
+use Rattle.matching.specs.Matching.{Cleared}
+
+-- what holds of the number that is stored, or of that which stays, holds of an entry of the table
+pub entry-stored : (P : ℕ → Type 0) (xs : List ℕ) (i x o : ℕ) → i < length xs → (o ≡ i → P x) → ((o ≡ i → ⊥) → P (getD xs o 0)) → P (getD (set xs i x) o 0)
+entry-stored P xs i x o l new old = go (ℕ-discrete o i)
+  where
+    go : Dec (o ≡ i) → P (getD (set xs i x) o 0)
+    go (yes e) = rw (e, getD-set-same xs i x 0 l) (new e)
+    go (no n) = rw (getD-set-other xs i o x 0 n) (old n)
+
+-- a table that is filled from its first entry on is filled by one entry more
+pub filled-more : {f : ℕ → ℕ} {n x : ℕ} (xs : List ℕ) → n < length xs → ((o : ℕ) → o < n → getD xs o 0 ≡ f o) → x ≡ f n → (o : ℕ) → o < n + 1 → getD (set xs n x) o 0 ≡ f o
+filled-more {f} {n} {x} xs l old new o m = entry-stored (λ y. y ≡ f o) xs n x o l (λ e. rw e new) (λ d. old o (omega arith))
+
+-- a new table is cleared
+pub new-cleared : Cleared (replicate maxRecords 0)
+new-cleared = record { sized = length-replicate {A = ℕ} maxRecords 0; zero = zeros maxRecords }

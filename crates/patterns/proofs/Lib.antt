@@ -1,0 +1,10 @@
+pub mod Adding
+pub mod Blocking
+pub mod Chaining
+pub mod FalseEmpties
+pub mod Finding
+pub mod Furthering
+pub mod Lower
+pub mod Pairs
+pub mod Showing
+pub mod Signing

@@ -1,0 +1,27 @@
+-- What the code finds of the patterns 4 and 5. What the judge answers can be understood without this file.
+use Prim.Native.Nat.{ℕ, _-_, _<_}
+use mathlib.Core.Path.{_≡_}
+use mathlib.Core.List.{List}
+use lib.Dec.{eqb}
+use Rattle.record.specs.Choice.{if_then_else_}
+use Rattle.history.specs.History.{add}
+use Rattle.history.specs.Table.{kindAt, callAt, returnAt}
+use Rattle.matching.specs.Matching.{partnerAt}
+use Rattle.matching.specs.Reaches.{reachAt}
+
+-- Add a precedes add b, whose remove returns before the value of a stops covering.
+pub record Blocks (table partner reach : List ℕ) (a b : ℕ) : Type 0 where
+  pub adds : kindAt table b ≡ add
+  pub removed : 0 < partnerAt partner b
+  pub before : returnAt table a < callAt table b
+  pub early : returnAt table (partnerAt partner b - 1) < reachAt reach a
+
+-- the pattern that an add shows if it blocks another: 4 if it is never removed, else 5
+abbrev pub patternBy : List ℕ → ℕ → ℕ
+patternBy partner a = if eqb (partnerAt partner a) 0 then 4 else 5
+
+-- a is an add that shows this pattern
+pub record Blocking (table : List ℕ) (count : ℕ) (partner reach : List ℕ) (pattern a : ℕ) : Type 0 where
+  pub adds : kindAt table a ≡ add
+  pub is : patternBy partner a ≡ pattern
+  pub some : (b : ℕ) × (b < count) × Blocks table partner reach a b

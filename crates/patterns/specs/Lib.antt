@@ -1,0 +1,4 @@
+pub mod Signs
+pub mod Blocked
+pub mod Chains
+pub mod Finding

@@ -1,0 +1,5 @@
+pub mod Choice
+pub mod Number
+pub mod Refusal
+pub mod Record
+pub mod Cursor

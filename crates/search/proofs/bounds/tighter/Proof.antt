@@ -1,0 +1,15 @@
+-- `tighter` meets its contract.
+use Rattle.search.proofs.bounds.tighter.Statement.{statement}
+use Rattle.search.proofs.bounds.tighter.Tie as tie
+use native.Mathlib.Omega.{arith}
+use mathlib.Core.Path.{refl}
+use mathlib.Core.Logic.{inl, inr}
+
+returns : tie.Need-returns
+returns c = (omega arith, omega arith, inl refl)
+
+returns-2 : tie.Need-returns-2
+returns-2 c = (omega arith, omega arith, inr refl)
+
+pub tighter-spec : {M : Type 1} → statement M
+tighter-spec = tie.close (tie.spec returns returns-2)

@@ -1,0 +1,112 @@
+-- `open_gaps` meets its contract. The loop's invariant: a is within the operations, and the values of those below a are opened.
+use Rattle.search.proofs.gaps.open_gaps.Statement.{statement}
+use Rattle.search.proofs.gaps.open_gaps.Tie as tie
+use borrow.Author.Needs.{needs}
+use Prim.Native.Nat.{_-_, _≤_}
+use native.Mathlib.Omega.{arith}
+use mathlib.Core.Path.{_≡_}
+use mathlib.Core.Logic.{⊎-elim}
+use Rattle.history.specs.Table.{tabled}
+use Rattle.matching.proofs.Holding.{return-within}
+use Rattle.search.specs.Gaps.{Opened}
+use Rattle.search.proofs.Covering.{opened-none, opened-other, opened-add}
+
+abbrev Inv-loop : tie.InvT-loop
+Inv-loop table count end reach gaps₀ a₀ gaps a = (a ≤ count) × Opened (tabled count end table) reach a gaps
+
+abbrev μ-loop : tie.MeasureT-loop
+μ-loop table count end reach gaps₀ a₀ gaps a = count - a
+
+loop-holds : tie.Need-loop-holds Inv-loop μ-loop
+loop-holds c = (omega arith, opened-none _ _ (c .pre .2))
+
+mul-at : tie.Need-mul-at Inv-loop μ-loop
+mul-at c = search needs
+
+add-if1 : tie.Need-add-if1 Inv-loop μ-loop
+add-if1 c = search needs
+
+mul-if1 : tie.Need-mul-if1 Inv-loop μ-loop
+mul-if1 c = search needs
+
+element-copy-out-if1 : tie.Need-element-copy-out-if1 Inv-loop μ-loop
+element-copy-out-if1 c = search needs
+
+add-returned : tie.Need-add-returned Inv-loop μ-loop
+add-returned c = search needs
+
+mul-returned : tie.Need-mul-returned Inv-loop μ-loop
+mul-returned c = search needs
+
+element-copy-out-returned : tie.Need-element-copy-out-returned Inv-loop μ-loop
+element-copy-out-returned c = search needs
+
+cast-returned : tie.Need-cast-returned Inv-loop μ-loop
+cast-returned c = omega (arith, return-within (c .before .before .before .before .before .pre .0) (c .before .before .before .loop-test .taken))
+
+mul-further : tie.Need-mul-further Inv-loop μ-loop
+mul-further c = search needs
+
+element-copy-out-further : tie.Need-element-copy-out-further Inv-loop μ-loop
+element-copy-out-further c = search needs
+
+mul-further-2 : tie.Need-mul-further-2 Inv-loop μ-loop
+mul-further-2 c = search needs
+
+element-copy-out-further-2 : tie.Need-element-copy-out-further-2 Inv-loop μ-loop
+element-copy-out-further-2 c = search needs
+
+further-requires : tie.Need-further-requires Inv-loop μ-loop
+further-requires c κs = search needs
+
+mul-gaps : tie.Need-mul-gaps Inv-loop μ-loop
+mul-gaps c = search needs
+
+element-write-gaps : tie.Need-element-write-gaps Inv-loop μ-loop
+element-write-gaps c = search needs
+
+add-a : tie.Need-add-a Inv-loop μ-loop
+add-a c = search needs
+
+loop-less : tie.Need-loop-less Inv-loop μ-loop
+loop-less c = search needs
+
+loop-again : tie.Need-loop-again Inv-loop μ-loop
+loop-again c =
+    let opened = c .before .before .before .loop .inv .1 in (
+      omega arith,
+      ⊎-elim
+          (λ w. rw (w .6) (opened-add opened (c .before .before .before .before .pre .0 .short) (record { known = c .before .before .loop-test .taken; kinds = w .0 .taken }) (w .2 .taken) (w .5 .ensures)))
+          (⊎-elim (λ w. rw (w .3) (opened-other opened (λ is r. omega (arith, w .2 .left)))) (λ w. rw (w .1) (opened-other opened (λ is r. w .0 .left (is .kinds)))))
+          (c .if1 .came),
+    )
+
+returns : tie.Need-returns Inv-loop μ-loop
+returns c = let last : c .before .loop .a ≡ c .before .before .args .count = omega arith in rw last at (c .before .loop .inv .1)
+
+pub open-gaps-spec : {M : Type 1} → statement M
+open-gaps-spec =
+    tie.close
+    (tie.spec
+    Inv-loop
+    μ-loop
+    loop-holds
+    mul-at
+    add-if1
+    mul-if1
+    element-copy-out-if1
+    add-returned
+    mul-returned
+    element-copy-out-returned
+    cast-returned
+    mul-further
+    element-copy-out-further
+    mul-further-2
+    element-copy-out-further-2
+    further-requires
+    mul-gaps
+    element-write-gaps
+    add-a
+    loop-less
+    loop-again
+    returns)

@@ -1,0 +1,77 @@
+-- `cap_of` meets its contract. The loop's invariant: `cap` is the least limit of the first i that wait and of those that are not enabled yet.
+use native.Mathlib.Omega.{arith}
+use Prim.Native.Nat.{_-_, _≤_}
+use mathlib.Core.Path.{_≡_}
+use lib.ListN.{getD, take}
+use Rattle.search.specs.Bounds.{limitAt}
+use Rattle.search.specs.Searching.{LeastOf}
+use Rattle.search.proofs.Least.{least-none, least-next}
+use Rattle.search.proofs.Standing.{entry}
+use borrow.Author.Needs.{needs}
+use Rattle.search.proofs.search.cap_of.Statement.{statement}
+use Rattle.search.proofs.search.cap_of.Tie as tie
+
+abbrev Inv-loop : tie.InvT-loop
+Inv-loop limit bound waiting n next cap₀ i₀ cap i = (i ≤ n) × LeastOf (limitAt limit) (getD bound next 0) (take i waiting) cap
+
+abbrev μ-loop : tie.MeasureT-loop
+μ-loop limit bound waiting n next cap₀ i₀ cap i = n - i
+
+mul-cap : tie.Need-mul-cap Inv-loop μ-loop
+mul-cap c = search needs
+
+element-copy-out-cap : tie.Need-element-copy-out-cap Inv-loop μ-loop
+element-copy-out-cap c = search needs
+
+loop-holds : tie.Need-loop-holds Inv-loop μ-loop
+loop-holds c = (omega arith, least-none _ _)
+
+mul-tighter : tie.Need-mul-tighter Inv-loop μ-loop
+mul-tighter c = search needs
+
+element-copy-out-tighter : tie.Need-element-copy-out-tighter Inv-loop μ-loop
+element-copy-out-tighter c = omega (arith, c .before .before .before .pre .1, c .loop-test .taken)
+
+cast-tighter : tie.Need-cast-tighter Inv-loop μ-loop
+cast-tighter c = omega (arith, c .before .before .before .before .pre .3 _ (entry (c .before .before .before .before .args .waiting .now) (c .before .before .before .before .args .n) (c .before .before .loop .i) (omega (arith, c .before .before .before .before .pre .1, c .before .before .before .before .pre .2)) (c .before .loop-test .taken)))
+
+mul-tighter-2 : tie.Need-mul-tighter-2 Inv-loop μ-loop
+mul-tighter-2 c = omega (arith, c .before .before .before .before .pre .3 _ (entry (c .before .before .before .before .args .waiting .now) (c .before .before .before .before .args .n) (c .before .before .loop .i) (omega (arith, c .before .before .before .before .pre .1, c .before .before .before .before .pre .2)) (c .before .loop-test .taken)))
+
+element-copy-out-tighter-2 : tie.Need-element-copy-out-tighter-2 Inv-loop μ-loop
+element-copy-out-tighter-2 c = omega (arith, c .before .before .before .before .pre .3 _ (entry (c .before .before .before .before .args .waiting .now) (c .before .before .before .before .args .n) (c .before .before .loop .i) (omega (arith, c .before .before .before .before .pre .1, c .before .before .before .before .pre .2)) (c .before .loop-test .taken)))
+
+tighter-requires : tie.Need-tighter-requires Inv-loop μ-loop
+tighter-requires c κs = search needs
+
+add-i : tie.Need-add-i Inv-loop μ-loop
+add-i c = omega (arith, c .before .before .before .loop-test .taken, c .before .before .before .before .before .before .pre .1)
+
+loop-less : tie.Need-loop-less Inv-loop μ-loop
+loop-less c = omega (arith, c .before .before .before .loop-test .taken)
+
+loop-again : tie.Need-loop-again Inv-loop μ-loop
+loop-again c = (omega (arith, c .before .before .before .loop-test .taken), least-next (c .before .before .before .before .before .before .args .waiting .now) (c .before .before .before .before .loop .i) (omega (arith, c .before .before .before .loop-test .taken, c .before .before .before .before .before .before .pre .1, c .before .before .before .before .before .before .pre .2)) (c .before .before .before .before .loop .inv .1) (c .tighter .ensures))
+
+returns : tie.Need-returns Inv-loop μ-loop
+returns c = let all : c .before .loop .i ≡ c .before .before .before .args .n = omega (arith, c .before .loop .inv .0, c .loop-test .left) in rw all at (c .before .loop .inv .1)
+
+pub cap-of-spec : {M : Type 1} → statement M
+cap-of-spec =
+    tie.close
+    (tie.spec
+    Inv-loop
+    μ-loop
+    mul-cap
+    element-copy-out-cap
+    loop-holds
+    mul-tighter
+    element-copy-out-tighter
+    cast-tighter
+    mul-tighter-2
+    element-copy-out-tighter-2
+    tighter-requires
+    add-i
+    loop-less
+    loop-again
+    returns)

@@ -1,0 +1,52 @@
+-- `is_due` meets its contract.
+use mathlib.Core.Logic.{inl}
+use Rattle.matching.proofs.Telling.{told-less}
+use Rattle.search.proofs.Due.{reach-due, due-reach}
+use borrow.Author.Needs.{needs}
+use Rattle.search.proofs.search.is_due.Statement.{statement}
+use Rattle.search.proofs.search.is_due.Tie as tie
+
+mul-if1 : tie.Need-mul-if1
+mul-if1 c = search needs
+
+add-if1 : tie.Need-add-if1
+add-if1 c = search needs
+
+mul-if1-2 : tie.Need-mul-if1-2
+mul-if1-2 c = search needs
+
+element-copy-out-if1 : tie.Need-element-copy-out-if1
+element-copy-out-if1 c = search needs
+
+cast-if1 : tie.Need-cast-if1
+cast-if1 c = search needs
+
+returns : tie.Need-returns
+returns c = record { known = c .before .before .pre .2; listed = inl (c .if1 .taken) }
+
+mul-result : tie.Need-mul-result
+mul-result c = search needs
+
+element-copy-out-result : tie.Need-element-copy-out-result
+element-copy-out-result c = search needs
+
+cast-result : tie.Need-cast-result
+cast-result c = search needs
+
+returns-2 : tie.Need-returns-2
+returns-2 c = told-less _ _ (reach-due (c .before .before .before .pre .0) (c .before .before .before .pre .1) _ (c .before .before .before .pre .2) (c .before .if1 .left)) (due-reach (c .before .before .before .pre .0) (c .before .before .before .pre .1) _ (c .before .before .before .pre .2) (c .before .if1 .left))
+
+pub is-due-spec : {M : Type 1} → statement M
+is-due-spec =
+    tie.close
+    (tie.spec
+    mul-if1
+    add-if1
+    mul-if1-2
+    element-copy-out-if1
+    cast-if1
+    returns
+    mul-result
+    element-copy-out-result
+    cast-result
+    returns-2)

@@ -1,0 +1,4 @@
+pub mod Gaps
+pub mod Bounds
+pub mod Searching
+pub mod Order

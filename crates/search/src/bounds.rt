@@ -1,0 +1,90 @@
+// Which adds may enter the queue: an operation that is left may set a limit to how far their values reach. specs/Bounds.antt says what the tables
+// of limits and of bounds hold.
+ghost use mathlib.Core.Path.{_≡_};
+ghost use mathlib.Core.Logic.{_⊎_};
+ghost use Prim.Native.Nat.{_+_, _≤_, _<_};
+ghost use lib.ListN.{length};
+ghost use Rattle.reader.specs.Log.{maxRecords};
+ghost use Rattle.history.specs.Table.{tabled};
+ghost use Rattle.matching.specs.Held.{Held};
+ghost use Rattle.matching.specs.Matching.{Partners};
+ghost use Rattle.search.specs.Bounds.{limitBy, LimitTable, BoundTable};
+use history::operations::ADD;
+use history::operations::EMPTY_REMOVE;
+use history::operations::FIELDS;
+use history::operations::KIND;
+use history::operations::Operations;
+use history::operations::RETURN;
+use matching::values::Numbers;
+
+// One number more than there are operations.
+pub const BOUNDS: usize = 1025;
+
+pub type Bounds = [u32; BOUNDS];
+
+// The limit that an operation sets as long as it is left. A value that enters the queue has to reach less far: than the return of the remove
+// of an add that is left, and than a number 1 above the last uncovered gap of an empty remove. Others set none: the end and 1.
+fn limit_of(
+    table: &Operations,
+    count: usize,
+    end: usize,
+    partner: &Numbers,
+    gaps: &Numbers,
+    o: usize,
+) -> u32
+    requires { ⌜ Held (tabled count end (now table)) × Partners (now table) count (now partner) × (length (now gaps) ≡ maxRecords) × (o < count) ⌝ }
+    ensures { λ r. ⌜ r ≡ limitBy (now (table .entry)) end (now (partner .entry)) (now (gaps .entry)) o ⌝ }
+{
+    let at = o * FIELDS;
+    let kind = table[at + KIND];
+    match kind {
+        ADD => {
+            let above = partner[o] as usize;
+            if above == 0 {
+                return end as u32 + 1;
+            }
+            table[(above - 1) * FIELDS + RETURN]
+        }
+        EMPTY_REMOVE => gaps[table[at + RETURN] as usize - 1],
+        _ => end as u32 + 1,
+    }
+}
+
+// Fills the table of limits.
+pub fn fill_limits(
+    table: &Operations,
+    count: usize,
+    end: usize,
+    partner: &Numbers,
+    gaps: &Numbers,
+    limit: &mut Numbers,
+)
+    requires { ⌜ Held (tabled count end (now table)) × Partners (now table) count (now partner) × (length (now gaps) ≡ maxRecords) × (length (now limit) ≡ maxRecords) ⌝ }
+    ensures { λ _. ⌜ LimitTable count end (now (table .entry)) (now (partner .entry)) (now (gaps .entry)) (now (limit .exit)) ⌝ }
+{
+    let mut o = 0;
+    while o < count {
+        limit[o] = limit_of(table, count, end, partner, gaps, o);
+        o += 1;
+    }
+}
+
+// The smaller of two numbers.
+pub fn tighter(a: u32, b: u32) -> u32
+    ensures { λ r. ⌜ (r ≤ a) × (r ≤ b) × ((r ≡ a) ⊎ (r ≡ b)) ⌝ }
+{
+    if a < b { a } else { b }
+}
+
+// Fills for each operation the least limit from it on, from the last operation down; behind the last there is none, the end and 1.
+pub fn fill_bounds(count: usize, end: usize, limit: &Numbers, bound: &mut Bounds)
+    requires { ⌜ (count ≤ maxRecords) × (end ≤ maxRecords) × (length (now limit) ≡ maxRecords) × (length (now bound) ≡ maxRecords + 1) ⌝ }
+    ensures { λ _. ⌜ BoundTable count end (now (limit .entry)) 0 (now (bound .exit)) ⌝ }
+{
+    let mut o = count;
+    bound[o] = end as u32 + 1;
+    while 0 < o {
+        bound[o - 1] = tighter(limit[o - 1], bound[o]);
+        o -= 1;
+    }
+}

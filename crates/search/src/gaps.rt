@@ -1,0 +1,69 @@
+// The gaps that no value covers, found by one sweep over the positions. specs/Gaps.antt says what the table of gaps holds.
+ghost use mathlib.Core.Path.{_≡_};
+ghost use mathlib.Core.Logic.{_⊎_};
+ghost use Prim.Native.Nat.{_≤_, _<_};
+ghost use lib.ListN.{length};
+ghost use Rattle.reader.specs.Log.{maxRecords};
+ghost use Rattle.history.specs.Table.{tabled};
+ghost use Rattle.matching.specs.Held.{Held};
+ghost use Rattle.matching.specs.Matching.{Cleared};
+ghost use Rattle.search.specs.Gaps.{Opened, Swept, Uncovered};
+use history::operations::ADD;
+use history::operations::FIELDS;
+use history::operations::KIND;
+use history::operations::Operations;
+use history::operations::RETURN;
+use matching::values::Numbers;
+
+// The larger of two numbers.
+fn further(a: u32, b: u32) -> u32
+    ensures { λ r. ⌜ (a ≤ r) × (b ≤ r) × ((r ≡ a) ⊎ (r ≡ b)) ⌝ }
+{
+    if a < b { b } else { a }
+}
+
+// Notes at the position of each add's return how far its value reaches, the furthest where several return.
+fn open_gaps(table: &Operations, count: usize, end: usize, reach: &Numbers, gaps: &mut Numbers)
+    requires { ⌜ Held (tabled count end (now table)) × (length (now reach) ≡ maxRecords) × Cleared (now gaps) ⌝ }
+    ensures { λ _. ⌜ Opened (tabled count end (now (table .entry))) (now (reach .entry)) count (now (gaps .exit)) ⌝ }
+{
+    let mut a = 0;
+    while a < count {
+        let at = a * FIELDS;
+        if table[at + KIND] == ADD {
+            let returned = table[at + RETURN] as usize;
+            if returned < end {
+                gaps[returned] = further(gaps[returned], reach[a]);
+            }
+        }
+        a += 1;
+    }
+}
+
+// Fills for each position a number 1 above the last gap up to there that no value covers, or 0 if there is none. A gap is covered if a value
+// whose add has returned reaches beyond it.
+fn sweep(end: usize, gaps: &mut Numbers)
+    requires { ⌜ (end ≤ maxRecords) × (length (now gaps) ≡ maxRecords) ⌝ }
+    ensures { λ _. ⌜ Swept end (now (gaps .entry)) (now (gaps .exit)) ⌝ }
+{
+    let mut furthest = 0;
+    let mut last = 0;
+    let mut g = 0;
+    while g < end {
+        furthest = further(furthest, gaps[g]);
+        if furthest <= g as u32 {
+            last = g as u32 + 1;
+        }
+        gaps[g] = last;
+        g += 1;
+    }
+}
+
+// Fills the table of gaps.
+pub fn fill_gaps(table: &Operations, count: usize, end: usize, reach: &Numbers, gaps: &mut Numbers)
+    requires { ⌜ Held (tabled count end (now table)) × (length (now reach) ≡ maxRecords) × Cleared (now gaps) ⌝ }
+    ensures { λ _. ⌜ Uncovered (tabled count end (now (table .entry))) (now (reach .entry)) end (now (gaps .exit)) ⌝ }
+{
+    open_gaps(table, count, end, reach, gaps);
+    sweep(end, gaps);
+}
