@@ -1,44 +1,8 @@
 /*
- * A correct queue: an array behind a lock. Each value that is ever added has its own place.
+ * A correct queue: an array behind a lock.
  */
 
-#include <pthread.h>
-#include <stdlib.h>
-
-#include "queue.h"
-
-struct array {
-    pthread_mutex_t lock;
-    unsigned front, back;
-    uint32_t values[];
-};
-
-static void *make(unsigned values)
-{
-    struct array *array = malloc(sizeof *array + values * sizeof *array->values);
-    if (array == NULL)
-        return NULL;
-    pthread_mutex_init(&array->lock, NULL);
-    array->front = 0;
-    array->back = 0;
-    return array;
-}
-
-static void destroy(void *queue)
-{
-    struct array *array = queue;
-    pthread_mutex_destroy(&array->lock);
-    free(array);
-}
-
-static int add(void *queue, uint32_t value)
-{
-    struct array *array = queue;
-    pthread_mutex_lock(&array->lock);
-    array->values[array->back++] = value;
-    pthread_mutex_unlock(&array->lock);
-    return 1;
-}
+#include "locked_array.h"
 
 static int take(void *queue, uint32_t *value)
 {
