@@ -84,7 +84,7 @@ orderly-partial {records} orderly = readable-log (encodeLog records) records (or
 -- a return is no call
 return-no-call : {records : List Record} → Orderly records → (o : ℕ) → o < operations records → returnOf records o < length records → isCall (recordOf records (returnOf records o) .event) ≡ 0
 return-no-call {records} orderly o h l =
-    let follows = orderly .next (callIndex records o) (returnOf records o) (return-is-next records (callIndex records o) l) in
+    let follows = orderly .regular .next (callIndex records o) (returnOf records o) (return-is-next records (callIndex records o) l) in
     omega (arith, call-of records o h .is-call, turns-change (recordOf records (callIndex records o) .event) (recordOf records (returnOf records o) .event) follows)
 
 -- an operation precedes another exactly if its return stands before the other's call

@@ -72,17 +72,19 @@ next-trades {records} {records'} {i} {a} {b} t next = record {
 -- orderly records stay orderly
 pub trades-orderly : {records records' : List Record} {i : ℕ} → Trades records records' i → Orderly records → Orderly records'
 trades-orderly {records} {records'} {i} t orderly = record {
-  few = omega (arith, orderly .few, t .long);
+  regular = record {
+    few = omega (arith, orderly .regular .few, t .long);
+    ticks = λ a b l h. omega (arith, t .tick a, t .tick b, orderly .regular .ticks a b l (omega (arith, t .long)));
+    first = λ j h alone. sym (ap asks (back .event j)) ∙ orderly .regular .first (exchange i j) (index-there back j h)
+        (λ k l e. alone (exchange i k) (rw (exchange-back i j) at (client-keeps t k (exchange i j) l e)) (t .client k ∙ e ∙ back .client j));
+    next = λ a b next. sym (ap asks (back .event b)) ∙ orderly .regular .next (exchange i a) (exchange i b) (next-trades back next) ∙ ap leaves (back .event a);
+    once = λ a b v l h p q. once a b v l h (back .event a ∙ p) (back .event b ∙ q) (decLt (exchange i a) (exchange i b)) (decLt (exchange i b) (exchange i a));
+  };
   small = λ j h. record {
     client = omega (arith, back .client j, orderly .small (exchange i j) (index-there back j h) .client);
     tick = omega (arith, t .tick j, orderly .small j (omega (arith, t .long)) .tick);
     value = omega (arith, ap valueIn (back .event j), orderly .small (exchange i j) (index-there back j h) .value);
   };
-  ticks = λ a b l h. omega (arith, t .tick a, t .tick b, orderly .ticks a b l (omega (arith, t .long)));
-  first = λ j h alone. sym (ap asks (back .event j)) ∙ orderly .first (exchange i j) (index-there back j h)
-      (λ k l e. alone (exchange i k) (rw (exchange-back i j) at (client-keeps t k (exchange i j) l e)) (t .client k ∙ e ∙ back .client j));
-  next = λ a b next. sym (ap asks (back .event b)) ∙ orderly .next (exchange i a) (exchange i b) (next-trades back next) ∙ ap leaves (back .event a);
-  once = λ a b v l h p q. once a b v l h (back .event a ∙ p) (back .event b ∙ q) (decLt (exchange i a) (exchange i b)) (decLt (exchange i b) (exchange i a));
   returned = λ a h e. let (j, next) = orderly .returned (exchange i a) (index-there back a h) (back .event a ∙ e) in (exchange i j, rw (exchange-back i a) at (next-trades t next));
 }
   where
@@ -91,8 +93,8 @@ trades-orderly {records} {records'} {i} t orderly = record {
 
     once : (a b v : ℕ) → a < b → b < length records' → recordOf records (exchange i a) .event ≡ CallAdd v → recordOf records (exchange i b) .event ≡ CallAdd v
         → Dec (exchange i a < exchange i b) → Dec (exchange i b < exchange i a) → ⊥
-    once a b v l h p q (yes m) d = orderly .once (exchange i a) (exchange i b) v m (index-there back b h) p q
-    once a b v l h p q (no n) (yes m) = orderly .once (exchange i b) (exchange i a) v m (index-there back a (omega arith)) q p
+    once a b v l h p q (yes m) d = orderly .regular .once (exchange i a) (exchange i b) v m (index-there back b h) p q
+    once a b v l h p q (no n) (yes m) = orderly .regular .once (exchange i b) (exchange i a) v m (index-there back a (omega arith)) q p
     once a b v l h p q (no n) (no m) =
         let same : exchange i a ≡ exchange i b = omega arith in
         omega (arith, exchange-back i a, exchange-back i b, ap (exchange i) same)
@@ -118,7 +120,7 @@ traded-length (suc i) (r ∷ s ∷ records) = ap suc (traded-length i (s ∷ rec
 
 -- two neighbouring calls or returns are of different clients, since a client's calls and returns take turns
 neighbours-apart : {records : List Record} {i : ℕ} → Orderly records → Tradable records i → recordOf records i .client ≡ recordOf records (i + 1) .client → ⊥
-neighbours-apart {records} {i} orderly tradable e = omega (arith, tradable .both, turns-change (recordOf records i .event) (recordOf records (i + 1) .event) (orderly .next i (i + 1) next))
+neighbours-apart {records} {i} orderly tradable e = omega (arith, tradable .both, turns-change (recordOf records i .event) (recordOf records (i + 1) .event) (orderly .regular .next i (i + 1) next))
   where
     next : Next records i (i + 1)
     next = record { later = omega arith; there = tradable .there; same = sym e; between = λ k l m. absurd (omega arith) }

@@ -72,7 +72,7 @@ filled-call {records = records} log n h c {count} {old} {callers} {recent} {tabl
     not-now o l e =
         let next : Next records (callIndex records o) n = rw e at (return-is-next records (callIndex records o) (omega arith)) in
         leaves-call (recordOf records (callIndex records o) .event) (call-of records o (omega (arith, filled .counted, ranks-below records n)) .is-call)
-        (sym (log .partial .next (callIndex records o) n next) ∙ asks-call (recordOf records n .event) c)
+        (sym (log .partial .regular .next (callIndex records o) n next) ∙ asks-call (recordOf records n .event) c)
 
     before : (o : ℕ) → o < count → returnIndex records (callIndex records o) < n + 1 → Dec (returnIndex records (callIndex records o) < n) → returnIndex records (callIndex records o) < n
     before o l r (yes b) = b
@@ -101,7 +101,7 @@ return-ends {records = records} log n h a {count} {old} {callers} filled {o} lat
     go (i, next) = by (latest .found rank ranked client) (decLt o rank) (decLt rank o)
       where
         leaves-it : leaves (recordOf records i .event) ≡ asks (recordOf records n .event)
-        leaves-it = sym (log .partial .next i n next)
+        leaves-it = sym (log .partial .regular .next i n next)
 
         is-call : isCall (recordOf records i .event) ≡ 1
         is-call = call-leaves (recordOf records i .event) (λ e. a (sym leaves-it ∙ e))

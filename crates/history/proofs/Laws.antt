@@ -50,7 +50,7 @@ module _ {log : List ℕ} {records : List Record} (readable : ReadableLog log re
       go CallRemove e c =
           let (j, next) = readable .returned (callOf o) (call .below) e in
           let same : returnOf o ≡ j = next-is-return records (callOf o) j next in
-          let (x, back) = asks-remove (recordOf records j .event) (readable .partial .next (callOf o) j next ∙ ap leaves e) in
+          let (x, back) = asks-remove (recordOf records j .event) (readable .partial .regular .next (callOf o) j next ∙ ap leaves e) in
           removes x e (omega (arith, next .there)) (ap (λ k. recordOf records k .event) same ∙ back)
       go ReturnAdd e c = absurd (omega (arith, ap isCall e))
       go (ReturnRemove x) e c = absurd (omega (arith, ap isCall e))
@@ -88,7 +88,7 @@ module _ {log : List ℕ} {records : List Record} (readable : ReadableLog log re
   other : (o p : ℕ) → o < operations records → p < operations records → returnOf o < length records → returnOf o ≡ callOf p → ⊥
   other o p h k l e =
       leaves-call (recordOf records (callOf o) .event) (call-of records o h .is-call)
-      (sym (readable .partial .next (callOf o) (returnOf o) (return-is-next records (callOf o) l))
+      (sym (readable .partial .regular .next (callOf o) (returnOf o) (return-is-next records (callOf o) l))
       ∙ ap (λ i. asks (recordOf records i .event)) e
       ∙ asks-call (recordOf records (callOf p) .event) (call-of records p k .is-call))
 
@@ -119,8 +119,8 @@ module _ {log : List ℕ} {records : List Record} (readable : ReadableLog log re
       in-b = add-call b k kb
 
       go : Dec (callOf a < callOf b) → Dec (callOf b < callOf a) → a ≡ b
-      go (yes l) d = absurd (readable .partial .once (callOf a) (callOf b) (historyOf records .value b) l (call-of records b k .below) in-a in-b)
-      go (no l) (yes m) = absurd (readable .partial .once (callOf b) (callOf a) (historyOf records .value b) m (call-of records a h .below) in-b in-a)
+      go (yes l) d = absurd (readable .partial .regular .once (callOf a) (callOf b) (historyOf records .value b) l (call-of records b k .below) in-a in-b)
+      go (no l) (yes m) = absurd (readable .partial .regular .once (callOf b) (callOf a) (historyOf records .value b) m (call-of records a h .below) in-b in-a)
       go (no l) (no m) = same-call records a b h k (omega arith)
 
   -- two that have returned and return at one position are one

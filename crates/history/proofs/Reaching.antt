@@ -47,7 +47,7 @@ reached-found reached l e m =
 pub reached-room : {log : List ℕ} {end : ℕ} {old callers recent table : List ℕ} {at count i : ℕ} → Reached log end old callers recent table at count i → i < end → Room i count end callers recent table
 reached-room {end = end} {recent = recent} {count = count} {i = i} reached l =
     let records = reached .whole .records in
-    let small : end ≤ maxRecords = omega (arith, readable (reached .whole) .partial .few, reached .whole .counted) in
+    let small : end ≤ maxRecords = omega (arith, readable (reached .whole) .partial .regular .few, reached .whole .counted) in
     let few : count ≤ i = omega (arith, reached .filled .counted, few-operations (take i records), length-take-le i records (omega (arith, reached .whole .counted))) in
     record {
       index-small = omega arith;

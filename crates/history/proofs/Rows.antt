@@ -7,7 +7,8 @@ use mathlib.Core.Logic.{Dec·and, Dec·not}
 use mathlib.Core.List.{List, [], _∷_, map}
 use Rattle.record.specs.Number.{bigEndian, bytesOf}
 use Rattle.record.specs.Record.{lengthOf, eventOf, encode, decodeAt}
-use Rattle.reader.specs.Log.{ofOthers, pendingCalls, pendingKind, earliestRemove, addedValues, isIn, eventFault, fault, scan, readPartial, operations, encodeAll, Reading, readable, readLog, encodeLog}
+use Rattle.reader.specs.Log.{ofOthers, pendingCalls, pendingKind, earliestRemove, addedValues, eventFault, fault, scan, readPartial, operations, encodeAll, Reading, readable, readLog, encodeLog}
+use Rattle.table.specs.Table.{isIn}
 use Rattle.history.specs.Each.{Each}
 use Rattle.history.specs.History.{History}
 use Rattle.history.specs.Operations.{callIndex, firstOf, positionOf, historyOf}

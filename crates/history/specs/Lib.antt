@@ -6,3 +6,4 @@ pub mod Each
 pub mod Runs
 pub mod Callers
 pub mod Table
+pub mod Answers

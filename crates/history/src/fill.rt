@@ -111,7 +111,7 @@ fn note(
 }
 
 // Fills the table from the records of a readable log.
-pub fn fill(log: &[u8], end: usize, table: &mut Operations)
+pub(crate) fn fill(log: &[u8], end: usize, table: &mut Operations)
     requires { ⌜ Whole (now log) end × (length (now table) ≡ tableLength) ⌝ }
     ensures { λ _. ⌜ Tabulated (readLog (now (log .entry))) (now (table .entry)) (now (table .exit)) ⌝ }
 {

@@ -125,7 +125,7 @@ judged-determined log j k = go (readLog log) refl j k
 pub verdict-at-most : (log : List ℕ) {records : List Record} → readLog log ≡ readable records → {byte : ℕ} {listed : List ℕ} → violations.Verdict (historyOf records) byte listed → length listed ≤ 682
 verdict-at-most log {records} reads verdict =
     let read = readable-log log records reads in
-    listed-at-most (history-lawful read) (returns-apart read) (read .partial .few) verdict
+    listed-at-most (history-lawful read) (returns-apart read) (read .partial .regular .few) verdict
 
 -- So 1,368 bytes, 4 and 2 for each of them, are enough for its sheet.
 pub long-enough : (log : List ℕ) {records : List Record} → readLog log ≡ readable records → {sheet sheet' : List ℕ} {answer : Verdict} → 1368 ≤ length sheet → Judges (readLog log) sheet answer sheet' → Accepted answer

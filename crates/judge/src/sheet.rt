@@ -21,7 +21,7 @@ fn put(sheet: &mut [u8], at: usize, x: u32)
 }
 
 // Writes the sheet of a verdict that lists the first k numbers of a list. There is room for it.
-pub fn write_sheet(verdict: u32, list: &Numbers, k: usize, sheet: &mut [u8])
+pub(crate) fn write_sheet(verdict: u32, list: &Numbers, k: usize, sheet: &mut [u8])
     requires { ⌜ (verdict < 256) × (k ≤ maxRecords) × (length (now list) ≡ maxRecords) × (sheetHeader + 2 * k ≤ length (now sheet)) ⌝ }
     ensures { λ _. ⌜ now (sheet .exit) ≡ written (sheetOf verdict (take k (now (list .entry)))) (now (sheet .entry)) ⌝ }
 {

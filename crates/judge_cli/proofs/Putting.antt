@@ -5,7 +5,7 @@ use native.Mathlib.Numerals.{add-one}
 use mathlib.Core.Path.{_≡_, refl, sym, ap, _∙_}
 use mathlib.Core.List.{List, [], _∷_, _++_, append-assoc}
 use lib.ListN.{length, take, drop, set, length-append}
-use lib.Seq.{length-take-le, take-at, drop-at, drop-append-add, drop-drop, set-split, append-snoc, take-all, paste, paste-zero}
+use lib.Seq.{length-take-le, take-at, drop-at, drop-append-add, drop-drop, set-split, append-snoc, paste-zero}
 use Rattle.judge_cli.specs.Text.{digit, decimal}
 use Rattle.judge_cli.specs.Writing.{Puts}
 use Rattle.judge_cli.proofs.Decimals.{decimal-digit, decimal-more}
@@ -15,10 +15,6 @@ puts-nothing buffer at = record { ends = omega arith; holds = paste-zero buffer 
 
 pub puts-byte : (buffer : List ℕ) (at x : ℕ) → at < length buffer → Puts (x ∷ []) at buffer (at + 1) (set buffer at x)
 puts-byte buffer at x l = record { ends = refl; holds = rw add-one (set-split buffer at x l ∙ sym (append-snoc (take at buffer) x _)) }
-
--- a whole list is copied
-pub puts-copy : (buffer : List ℕ) (at : ℕ) (bytes : List ℕ) (i : ℕ) {buffer' : List ℕ} → i ≡ length bytes → buffer' ≡ paste buffer at bytes i → Puts bytes at buffer (at + i) buffer'
-puts-copy buffer at bytes i e f = record { ends = ap (λ n. at + n) e; holds = f ∙ ap (λ b. take at buffer ++ b ++ drop (at + i) buffer) (take-all i bytes (omega arith)) }
 
 -- what is put behind what was put
 pub puts-more : {bytes more buffer buffer' buffer'' : List ℕ} {at mid next : ℕ} → Puts bytes at buffer mid buffer' → Puts more mid buffer' next buffer'' → at ≤ length buffer → Puts (bytes ++ more) at buffer next buffer''

@@ -10,6 +10,7 @@ use Rattle.reader.specs.Log.{Reading, readable, refused, operations}
 use Rattle.history.specs.Operations.{historyOf}
 use Rattle.history.specs.Sheet.{orderVerdict}
 use Rattle.violations.specs.Verdict.{Verdict}
+use Rattle.violations.specs.Found.{Found}
 use Rattle.judge_cli.specs.Text.{ascii, decimal, line}
 
 -- "Line 1: n, then the calls."
@@ -31,12 +32,12 @@ verdictLine byte listed = if eqb byte orderVerdict then orderLine listed else pa
 abbrev pub refusalLine : ℕ → ℕ → List ℕ
 refusalLine number index = line (ascii "refused") (decimal number ∷ decimal index ∷ [])
 
--- A text is the report of a readable log: two lines, of which the second tells a verdict of the log. (A log has only one, but for the order that is
--- listed.)
+-- A text is the report of a readable log: two lines, of which the second tells the verdict of the log. An order is the one that the judge lists.
 pub record JudgedReport (records : List Record) (text : List ℕ) : Type 0 where
   pub byte : ℕ
   pub listed : List ℕ
   pub verdict : Verdict (historyOf records) byte listed
+  pub chosen : byte ≡ orderVerdict → Found (historyOf records) listed
   pub lines : text ≡ countsLine (length records) (operations records) ++ verdictLine byte listed
 
 -- A text is the report of a log, as it was read.

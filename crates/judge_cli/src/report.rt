@@ -119,7 +119,7 @@ fn put_answer(text: &mut [u8], at: usize, answer: Verdict, sheet: &[u8]) -> usiz
 }
 
 // Judges a log and writes its report. Answers how many bytes it has.
-pub fn report(log: &[u8], text: &mut [u8]) -> usize
+pub(crate) fn report(log: &[u8], text: &mut [u8]) -> usize
     requires { ⌜ reportRoom ≤ length (now text) ⌝ }
     ensures { λ n. ⌜ Reported (readLog (now (log .entry))) (now (text .entry)) n (now (text .exit)) ⌝ }
 {

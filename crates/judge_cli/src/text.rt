@@ -5,6 +5,7 @@ ghost use Prim.Native.Nat.{_+_, _≤_, _<_};
 ghost use lib.ListN.{length};
 ghost use Rattle.judge_cli.specs.Text.{space, lineFeed, decimal};
 ghost use Rattle.judge_cli.specs.Writing.{Puts};
+use buffer::buffer::copy;
 
 const SPACE: u8 = b' ';
 
@@ -22,16 +23,12 @@ fn put_byte(text: &mut [u8], at: usize, byte: u8) -> usize
 }
 
 // Writes bytes.
-pub fn put_bytes(text: &mut [u8], at: usize, bytes: &[u8]) -> usize
+pub(crate) fn put_bytes(text: &mut [u8], at: usize, bytes: &[u8]) -> usize
     requires { ⌜ at + length (now bytes) ≤ length (now text) ⌝ }
     ensures { λ next. ⌜ Puts (now (bytes .entry)) at (now (text .entry)) next (now (text .exit)) ⌝ }
 {
-    let mut i = 0;
-    while i < bytes.len() {
-        text[at + i] = bytes[i];
-        i += 1;
-    }
-    at + i
+    copy(bytes, at, text);
+    at + bytes.len()
 }
 
 // Writes a number in decimal.
@@ -47,7 +44,7 @@ fn put_number(text: &mut [u8], at: usize, x: usize) -> usize
 }
 
 // Writes a space and a number.
-pub fn put_field(text: &mut [u8], at: usize, x: usize) -> usize
+pub(crate) fn put_field(text: &mut [u8], at: usize, x: usize) -> usize
     requires { ⌜ at + length (space ∷ decimal x) ≤ length (now text) ⌝ }
     ensures { λ next. ⌜ Puts (space ∷ decimal x) at (now (text .entry)) next (now (text .exit)) ⌝ }
 {
@@ -56,7 +53,7 @@ pub fn put_field(text: &mut [u8], at: usize, x: usize) -> usize
 }
 
 // Ends a line.
-pub fn end_line(text: &mut [u8], at: usize) -> usize
+pub(crate) fn end_line(text: &mut [u8], at: usize) -> usize
     requires { ⌜ at < length (now text) ⌝ }
     ensures { λ next. ⌜ Puts (lineFeed ∷ []) at (now (text .entry)) next (now (text .exit)) ⌝ }
 {

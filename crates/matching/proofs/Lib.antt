@@ -4,4 +4,4 @@ pub mod Matching
 pub mod Partnering
 pub mod Reaching
 pub mod Storing
-pub mod Telling
+pub mod Tests

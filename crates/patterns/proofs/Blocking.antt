@@ -5,23 +5,24 @@ use native.Mathlib.Decide.{decLt}
 use mathlib.Core.Path.{_≡_}
 use mathlib.Core.List.{List}
 use lib.Dec.{ltb}
+use Rattle.history.specs.Answers.{Decides}
 use Rattle.history.specs.History.{add}
 use Rattle.history.specs.Table.{kindAt, callAt, returnAt}
-use Rattle.matching.specs.Answers.{First, Told}
+use Rattle.matching.specs.Answers.{First}
 use Rattle.matching.specs.Matching.{partnerAt}
 use Rattle.matching.specs.Reaches.{reachAt}
-use Rattle.matching.proofs.Telling.{told-less}
+use Rattle.matching.proofs.Tests.{decided-less}
 use Rattle.patterns.specs.Blocked.{patternBy, Blocks, Blocking}
 
 -- an add that is removed is blocked by one that precedes it if its remove returns in time
-pub told-blocks : (table partner reach : List ℕ) (a b : ℕ) → kindAt table b ≡ add → (partnerAt partner b ≡ 0 → ⊥) → returnAt table a < callAt table b
-    → Told (Blocks table partner reach a b) (ltb (returnAt table (partnerAt partner b - 1)) (reachAt reach a))
-told-blocks table partner reach a b adds removed before = told-less {P = Blocks table partner reach a b} _ _ (λ early. record { adds = adds; removed = omega arith; before = before; early = early }) (λ blocks. blocks .early)
+pub decided-blocks : (table partner reach : List ℕ) (a b : ℕ) → kindAt table b ≡ add → (partnerAt partner b ≡ 0 → ⊥) → returnAt table a < callAt table b
+    → Decides (Blocks table partner reach a b) (ltb (returnAt table (partnerAt partner b - 1)) (reachAt reach a))
+decided-blocks table partner reach a b adds removed before = decided-less {P = Blocks table partner reach a b} _ _ (λ early. record { adds = adds; removed = omega arith; before = before; early = early }) (λ blocks. blocks .early)
 
 -- an add of the pattern shows it if it blocks an operation
-pub told-blocking : (table : List ℕ) (count : ℕ) (partner reach : List ℕ) (pattern a b : ℕ) → kindAt table a ≡ add → patternBy partner a ≡ pattern → First (Blocks table partner reach a) count b
-    → Told (Blocking table count partner reach pattern a) (ltb b count)
-told-blocking table count partner reach pattern a b adds is first = told-less b count (λ l. record { adds = adds; is = is; some = (b, l, first .holds l) }) within
+pub decided-blocking : (table : List ℕ) (count : ℕ) (partner reach : List ℕ) (pattern a b : ℕ) → kindAt table a ≡ add → patternBy partner a ≡ pattern → First (Blocks table partner reach a) count b
+    → Decides (Blocking table count partner reach pattern a) (ltb b count)
+decided-blocking table count partner reach pattern a b adds is first = decided-less b count (λ l. record { adds = adds; is = is; some = (b, l, first .holds l) }) within
   where
     within : Blocking table count partner reach pattern a → b < count
     within blocking = go (decLt b count) (blocking .some)

@@ -4,7 +4,8 @@ ghost use mathlib.Core.Path.{_≡_};
 ghost use Prim.Native.Nat.{_≤_, _<_};
 ghost use lib.ListN.{length};
 ghost use Rattle.reader.specs.Log.{maxRecords};
-ghost use Rattle.matching.specs.Answers.{First, Told};
+ghost use Rattle.history.specs.Answers.{Decides};
+ghost use Rattle.matching.specs.Answers.{First};
 ghost use Rattle.matching.specs.Matching.{Partners};
 ghost use Rattle.patterns.specs.Blocked.{patternBy, Blocks, Blocking};
 use history::operations::ADD;
@@ -30,7 +31,7 @@ fn blocks(
     b: usize,
 ) -> bool
     requires { ⌜ (count ≤ maxRecords) × (a < count) × (b < count) × Partners (now table) count (now partner) × (length (now reach) ≡ maxRecords) ⌝ }
-    ensures { λ r. ⌜ Told (Blocks (now (table .entry)) (now (partner .entry)) (now (reach .entry)) a b) r ⌝ }
+    ensures { λ r. ⌜ Decides (Blocks (now (table .entry)) (now (partner .entry)) (now (reach .entry)) a b) r ⌝ }
 {
     let at = b * FIELDS;
     if table[at + KIND] != ADD {
@@ -47,7 +48,7 @@ fn blocks(
 }
 
 // The lowest add that add a blocks, or `count` if there is none.
-pub fn blocked_by(
+pub(crate) fn blocked_by(
     table: &Operations,
     count: usize,
     partner: &Numbers,
@@ -85,7 +86,7 @@ fn shows_blocking(
     pattern: u32,
 ) -> bool
     requires { ⌜ (count ≤ maxRecords) × (a < count) × Partners (now table) count (now partner) × (length (now reach) ≡ maxRecords) ⌝ }
-    ensures { λ r. ⌜ Told (Blocking (now (table .entry)) count (now (partner .entry)) (now (reach .entry)) pattern a) r ⌝ }
+    ensures { λ r. ⌜ Decides (Blocking (now (table .entry)) count (now (partner .entry)) (now (reach .entry)) pattern a) r ⌝ }
 {
     if table[a * FIELDS + KIND] != ADD {
         return false;
@@ -97,7 +98,7 @@ fn shows_blocking(
 }
 
 // The lowest add that shows a pattern, or `count` if none does.
-pub fn first_blocking(
+pub(crate) fn first_blocking(
     table: &Operations,
     count: usize,
     partner: &Numbers,

@@ -3,11 +3,11 @@ ghost use mathlib.Core.Path.{_≡_};
 ghost use Prim.Native.Nat.{_≤_, _<_};
 ghost use lib.ListN.{length};
 ghost use Rattle.reader.specs.Log.{maxRecords};
+ghost use Rattle.history.specs.Answers.{Decides};
 ghost use Rattle.history.specs.Table.{tabled};
 ghost use Rattle.history.specs.History.{emptyRemove};
 ghost use Rattle.violations.specs.Violations.{Is};
 ghost use Rattle.matching.specs.Held.{Held};
-ghost use Rattle.matching.specs.Answers.{Told};
 ghost use Rattle.matching.specs.Reaches.{Reaching};
 ghost use Rattle.patterns.specs.Chains.{ReturnedAdd, Adds, Chained, FirstChained};
 use history::operations::ADD;
@@ -23,7 +23,7 @@ use reader::format::MAX_RECORDS;
 // Whether an operation is an add that has returned: only the value of such a one covers gaps.
 fn is_returned_add(table: &Operations, count: usize, end: usize, a: usize) -> bool
     requires { ⌜ (count ≤ maxRecords) × (end ≤ maxRecords) × (a < count) ⌝ }
-    ensures { λ r. ⌜ Told (ReturnedAdd (tabled count end (now (table .entry))) a) r ⌝ }
+    ensures { λ r. ⌜ Decides (ReturnedAdd (tabled count end (now (table .entry))) a) r ⌝ }
 {
     let at = a * FIELDS;
     if table[at + KIND] != ADD {
@@ -96,7 +96,7 @@ fn chain(
 }
 
 // Lists the lowest empty remove all gaps of which are covered, and its chain. Answers how many operations are listed, 0 if there is none.
-pub fn false_empty(
+pub(crate) fn false_empty(
     table: &Operations,
     count: usize,
     end: usize,

@@ -3,7 +3,8 @@ ghost use mathlib.Core.Path.{_≡_};
 ghost use Prim.Native.Nat.{_≤_, _<_};
 ghost use lib.ListN.{length};
 ghost use Rattle.reader.specs.Log.{maxRecords};
-ghost use Rattle.matching.specs.Answers.{First, Told};
+ghost use Rattle.history.specs.Answers.{Decides};
+ghost use Rattle.matching.specs.Answers.{First};
 ghost use Rattle.matching.specs.Matching.{Partners};
 ghost use Rattle.patterns.specs.Signs.{Shows, Again};
 use history::operations::CALL;
@@ -24,7 +25,7 @@ pub const EARLY: u32 = 3;
 // Whether a remove shows a pattern: its value is never added, is removed again by a later remove, or is added only behind its return.
 fn shows(table: &Operations, count: usize, partner: &Numbers, r: usize, pattern: u32) -> bool
     requires { ⌜ (count ≤ maxRecords) × (r < count) × Partners (now table) count (now partner) ⌝ }
-    ensures { λ b. ⌜ Told (Shows (now (table .entry)) (now (partner .entry)) pattern r) b ⌝ }
+    ensures { λ b. ⌜ Decides (Shows (now (table .entry)) (now (partner .entry)) pattern r) b ⌝ }
 {
     if table[r * FIELDS + KIND] != REMOVE {
         return false;
@@ -42,7 +43,12 @@ fn shows(table: &Operations, count: usize, partner: &Numbers, r: usize, pattern:
 }
 
 // The lowest remove that shows a pattern, or `count` if none does.
-pub fn first_showing(table: &Operations, count: usize, partner: &Numbers, pattern: u32) -> usize
+pub(crate) fn first_showing(
+    table: &Operations,
+    count: usize,
+    partner: &Numbers,
+    pattern: u32,
+) -> usize
     requires { ⌜ (count ≤ maxRecords) × Partners (now table) count (now partner) ⌝ }
     ensures { λ r. ⌜ First (Shows (now (table .entry)) (now (partner .entry)) pattern) count r ⌝ }
 {
@@ -57,7 +63,7 @@ pub fn first_showing(table: &Operations, count: usize, partner: &Numbers, patter
 }
 
 // The lowest remove above r with the same partner, or `count` if there is none.
-pub fn removed_again(table: &Operations, count: usize, partner: &Numbers, r: usize) -> usize
+pub(crate) fn removed_again(table: &Operations, count: usize, partner: &Numbers, r: usize) -> usize
     requires { ⌜ (count ≤ maxRecords) × (r < count) × (length (now partner) ≡ maxRecords) ⌝ }
     ensures { λ s. ⌜ First (Again (now (table .entry)) (now (partner .entry)) r) count s ⌝ }
 {

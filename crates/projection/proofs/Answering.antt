@@ -35,7 +35,7 @@ table-of {log} before {table} e f tabulated =
 
 module _ {log : List ℕ} {n m : ℕ} {table : List ℕ} (of : TableOf log n m table) where
   pub count-small : m ≤ maxRecords
-  count-small = omega (arith, of .counted, few-operations (of .whole .records), whole-readable (of .whole) .partial .few)
+  count-small = omega (arith, of .counted, few-operations (of .whole .records), whole-readable (of .whole) .partial .regular .few)
 
   -- an operation is kept by its entry as by the history that the table holds
   keeps-agree : (empties values : List ℕ) (o : ℕ) → o < m → keepsIn table empties values o ≡ keeps (historyOf (of .whole .records)) empties values o

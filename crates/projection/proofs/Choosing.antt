@@ -8,7 +8,7 @@ use mathlib.Core.List.{List, [], _∷_}
 use lib.Dec.{eqb}
 use borrow.Author.Tests.{eq-eqb, ne-eqb}
 use Rattle.record.specs.Choice.{if_then_else_}
-use Rattle.reader.specs.Log.{isIn}
+use Rattle.table.specs.Table.{isIn}
 use Rattle.history.specs.Each.{Each}
 use Rattle.history.specs.History.{History, emptyRemove}
 use Rattle.violations.specs.Parts.{HasValue}

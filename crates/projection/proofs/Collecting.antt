@@ -11,7 +11,7 @@ use lib.Seq.{take-suc, take-all, length-take-le}
 use borrow.Author.Tests.{eq-eqb, ne-eqb}
 use Rattle.record.specs.Choice.{if_then_else_}
 use Rattle.reader.specs.Log.{maxRecords}
-use Rattle.reader.specs.Tables.{Pushed}
+use Rattle.table.specs.Table.{Pushed}
 use Rattle.history.specs.History.{History, emptyRemove}
 use Rattle.history.specs.Table.{kindAt, valueAt}
 use Rattle.projection.specs.Projection.{valuesOf}

@@ -63,7 +63,7 @@ module _ {log : List ℕ} {n m : ℕ} {table : List ℕ} (of : TableOf log n m t
   held = record {
     lawful = agree-lawful (agree-sym (of .agree)) lawful;
     few = count-small of;
-    short = omega (arith, of .whole .counted, whole-readable (of .whole) .partial .few);
+    short = omega (arith, of .whole .counted, whole-readable (of .whole) .partial .regular .few);
   }
 
   module _ {verdict k : ℕ} {list : List ℕ} (decided : Decided (tabled m n table) verdict k list) where

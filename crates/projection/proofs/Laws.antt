@@ -7,21 +7,25 @@ use mathlib.Core.Bool.{Bool, true, false}
 use mathlib.Core.Logic.{_⊎_, inl, inr}
 use mathlib.Core.List.{List, [], _∷_, _++_}
 use lib.ListN.{length, length-append}
+use lib.Dec.{eqb}
+use borrow.Author.Tests.{eqb-false}
 use Rattle.record.specs.Choice.{if_then_else_}
 use Rattle.record.specs.Number.{bytesOf, Bytes}
 use Rattle.record.specs.Record.{encode}
 use Rattle.record.specs.declared.record.Record.{Record}
 use Rattle.buffer.specs.Buffer.{written}
-use Rattle.reader.specs.Log.{maxLength, isIn, encodeAll, readable, readLog, encodeLog, operations}
+use Rattle.reader.specs.Log.{maxLength, encodeAll, readable, readLog, encodeLog, operations}
+use Rattle.table.specs.Table.{isIn}
 use Rattle.reader.specs.Readable.{ReadableLog, Orderly}
 use Rattle.reader.proofs.Laws.{readable-log, readable-orderly, orderly-readable}
+use Rattle.history.specs.History.{emptyRemove}
 use Rattle.history.specs.Each.{Each}
 use Rattle.history.specs.Operations.{callIndex, historyOf}
 use Rattle.history.proofs.Laws.{history-lawful}
 use Rattle.history.specs.Linearization.{Linearization}
 use Rattle.violations.specs.Violations.{NoViolation}
 use Rattle.violations.specs.Verdict.{FirstViolation, Verdict}
-use Rattle.violations.specs.Parts.{Part, Kept}
+use Rattle.violations.specs.Parts.{HasValue, Part, Kept}
 use Rattle.violations.proofs.Laws.{SomeViolation, first-violation, first-violation-one, occurs-known, excluded, part-verdict}
 use Rattle.projection.specs.Projection.{operationOf, keepRecords, valuesOf, keeps, projection, narrowed, excerpted}
 use Rattle.projection.specs.Outcome.{noPattern, writing, excerptAnswerOf, excerptLeavesOf, excerptAnswer, excerptLeaves}
@@ -108,12 +112,17 @@ projection-short log records reads bytes empties values = orderly-log (projectio
 pub narrowed-readable : (log : List ℕ) (records : List Record) → readLog log ≡ readable records → Bytes log → (values : List ℕ) → readLog (encodeLog (narrowed records values)) ≡ readable (narrowed records values)
 narrowed-readable log records reads bytes values = orderly-readable (narrowed records values) (projection-orderly [] values (readable-orderly (readable-log log records reads) bytes))
 
--- "repeats in the list change nothing", nor do values that the log lacks: lists that hold the same of its values narrow a log to the same records.
+-- "repeats in the list change nothing", nor do values that the log lacks: lists that hold the same of its values narrow a log to the same records. An empty
+-- remove has no value.
 pub narrowed-alike : (log : List ℕ) (records : List Record) → readLog log ≡ readable records → (values others : List ℕ)
-    → ((o : ℕ) → o < operations records → isIn (historyOf records .value o) values ≡ isIn (historyOf records .value o) others) → narrowed records values ≡ narrowed records others
+    → ((o : ℕ) → HasValue (historyOf records) o → isIn (historyOf records .value o) values ≡ isIn (historyOf records .value o) others) → narrowed records values ≡ narrowed records others
 narrowed-alike log records reads values others same =
     keep-same (keeps (historyOf records) [] values) (keeps (historyOf records) [] others) records
-    (λ i l. rw (same (Marks.operationAt records i) (operation-known (readable-log log records reads) i l)) refl)
+    (λ i l. kept-alike (Marks.operationAt records i) (operation-known (readable-log log records reads) i l) (eqb (historyOf records .kind (Marks.operationAt records i)) emptyRemove) refl)
+  where
+    kept-alike : (o : ℕ) → o < operations records → (t : Bool) → eqb (historyOf records .kind o) emptyRemove ≡ t → keeps (historyOf records) [] values o ≡ keeps (historyOf records) [] others o
+    kept-alike o known true t = rw t refl
+    kept-alike o known false t = rw (t, same o (record { known = known; valued = eqb-false (historyOf records .kind o) emptyRemove t })) refl
 
 -- 23: "excerpt where the verdict is an order": so it is answered, and nothing is written.
 pub excerpt-of-order : (log : List ℕ) (records : List Record) → readLog log ≡ readable records → (order : List ℕ) → Linearization (historyOf records) order → (out : List ℕ)

@@ -53,7 +53,7 @@ module _ {log kept callers recent marks : List ℕ} {end at count i : ℕ} (mark
     below = omega (arith, marking .whole .counted)
 
     pub marking-small : i < maxRecords
-    marking-small = omega (arith, marking .along .readable .partial .few, below)
+    marking-small = omega (arith, marking .along .readable .partial .regular .few, below)
 
     pub marking-found : {number : ℕ} {d : Decoded} → d ≡ decodeAt log at → d ≡ Malformed number → ⊥
     marking-found = along-found (marking .along) below

@@ -34,7 +34,7 @@ measuring-starts whole = record { whole = whole; along = along-start whole; coun
 module _ {log marks : List ℕ} {end count bytes at i : ℕ} (measuring : Measuring log end marks count bytes at i) where
   pub measuring-ends : end ≤ i → Measured log marks (record { records = count; bytes = bytes })
   measuring-ends l = record {
-    few = omega (arith, measuring .few, measuring .along .within, measuring .along .readable .partial .few);
+    few = omega (arith, measuring .few, measuring .along .within, measuring .along .readable .partial .regular .few);
     short = omega (arith, measuring .short, measuring .along .stands, offset-within (measuring .along .readable .partial) i, measuring .along .readable .partial .short);
     records-are = λ records reads. rw (← whole-one (measuring .whole) records reads, ← last) (measuring .counted);
     bytes-are = λ records reads. rw (← whole-one (measuring .whole) records reads, ← last) (measuring .sized);
@@ -56,7 +56,7 @@ module _ {log marks : List ℕ} {end count bytes at i : ℕ} (measuring : Measur
 
     -- indices and offsets are small
     pub measuring-small : (i < maxRecords) × (next ≤ maxLength)
-    measuring-small = omega (arith, below, along-within (measuring .along) below e, measuring .along .readable .partial .few, measuring .along .readable .partial .short)
+    measuring-small = omega (arith, below, along-within (measuring .along) below e, measuring .along .readable .partial .regular .few, measuring .along .readable .partial .short)
 
     pub measuring-rises : at ≤ next
     measuring-rises = omega (arith, size)

@@ -79,7 +79,7 @@ pub call-before : {log : List ℕ} {records : List Record} → ReadableLog log r
     → (i : ℕ) × (i < n) × (isCall (recordOf records i .event) ≡ 1) × (recordOf records i .client ≡ recordOf records n .client)
 call-before {records = records} readable {n} h c =
     let (i, next) = called (readable .partial) n h (return-asks (recordOf records n .event) c) in
-    (i, next .later, call-leaves (recordOf records i .event) (λ e. return-asks (recordOf records n .event) c (readable .partial .next i n next ∙ e)), sym (next .same))
+    (i, next .later, call-leaves (recordOf records i .event) (λ e. return-asks (recordOf records n .event) c (readable .partial .regular .next i n next ∙ e)), sym (next .same))
 
 -- the operation of a record of a readable log is one of the log
 pub operation-known : {log : List ℕ} {records : List Record} → ReadableLog log records → (n : ℕ) → n < length records → operationAt records n < operations records

@@ -90,7 +90,7 @@ operation-answered {records} orderly i j a =
         by : Dec (k ≡ j) → ⊥
         by (yes q) =
             leaves-call (recordOf records i .event) (a .is-call)
-            (sym (orderly .next i j (a .next)) ∙ ap (λ x. asks (recordOf records x .event)) (sym q) ∙ asks-call (recordOf records k .event) c)
+            (sym (orderly .regular .next i j (a .next)) ∙ ap (λ x. asks (recordOf records x .event)) (sym q) ∙ asks-call (recordOf records k .event) c)
         by (no q) = a .next .between k l (omega arith) (e ∙ a .next .same)
 
 -- the call of an operation is of that operation

@@ -30,8 +30,8 @@ answers {records} orderly j h = by (ℕ-discrete (asks (recordOf records j .even
     by : Dec (asks (recordOf records j .event) ≡ 0) → ((i : ℕ) × Next records i j) ⊎ ((k : ℕ) → k < j → recordOf records k .client ≡ recordOf records j .client → ⊥)
         → (asks (recordOf records j .event) ≡ 0) ⊎ ((i : ℕ) × Answers records i j)
     by (yes a) before = inl a
-    by (no a) (inr alone) = inl (orderly .first j h alone)
-    by (no a) (inl (i, next)) = inr (i, record { next = next; is-call = call-leaves (recordOf records i .event) (λ l. a (orderly .next i j next ∙ l)) })
+    by (no a) (inr alone) = inl (orderly .regular .first j h alone)
+    by (no a) (inl (i, next)) = inr (i, record { next = next; is-call = call-leaves (recordOf records i .event) (λ l. a (orderly .regular .next i j next ∙ l)) })
 
 -- a call and its return are marked alike
 abbrev pub Together : (ℕ → Bool) → List Record → Type 0
@@ -93,7 +93,7 @@ module _ {marked : ℕ → Bool} {records kept : List Record} (orderly : Orderly
           → asks (recordOf kept j .event) ≡ leaves (recordOf kept i .event)
       by (no l) w =
           let up : Next records (p .source i) (p .source j) = next-of-call together p i j n (call-leaves (recordOf kept i .event) l) in
-          ap asks (event-same p j (n .there)) ∙ orderly .next (p .source i) (p .source j) up ∙ ap leaves (sym (event-same p i here))
+          ap asks (event-same p j (n .there)) ∙ orderly .regular .next (p .source i) (p .source j) up ∙ ap leaves (sym (event-same p i here))
       by (yes l) (inl a) = a ∙ sym l
       by (yes l) (inr (k, there, a)) =
           let e : k ≡ i = next-of-one kept k i j (next-picked p k j there (n .there) (a .next)) n in
@@ -107,23 +107,19 @@ module _ {marked : ℕ → Bool} {records kept : List Record} (orderly : Orderly
       (j, next-picked p i j h (same .below) (rw (← (same .is)) at n))
 
   ticks : (i j : ℕ) → i ≤ j → j < length kept → recordOf kept i .tick ≤ recordOf kept j .tick
-  ticks i j l h = rw (p .same i (omega arith), p .same j h) (orderly .ticks (p .source i) (p .source j) (by (decLt i j)) (p .below j h))
+  ticks i j l h = rw (p .same i (omega arith), p .same j h) (orderly .regular .ticks (p .source i) (p .source j) (by (decLt i j)) (p .below j h))
     where
       by : Dec (i < j) → p .source i ≤ p .source j
       by (yes m) = omega (arith, p .rises i j m h)
       by (no m) = let e : i ≡ j = omega arith in omega (arith, ap (p .source) e)
 
   once : (i j v : ℕ) → i < j → j < length kept → recordOf kept i .event ≡ CallAdd v → recordOf kept j .event ≡ CallAdd v → ⊥
-  once i j v l h e f = orderly .once (p .source i) (p .source j) v (p .rises i j l h) (p .below j h) (sym (event-same p i (omega arith)) ∙ e) (sym (event-same p j h) ∙ f)
+  once i j v l h e f = orderly .regular .once (p .source i) (p .source j) v (p .rises i j l h) (p .below j h) (sym (event-same p i (omega arith)) ∙ e) (sym (event-same p j h) ∙ f)
 
   -- so they are those of a readable log
   pub picked-orderly : Orderly kept
   picked-orderly = record {
-    few = omega (arith, p .fewer, orderly .few);
+    regular = record { few = omega (arith, p .fewer, orderly .regular .few); ticks = ticks; first = first; next = next; once = once };
     small = λ i h. rw (p .same i h) (orderly .small (p .source i) (p .below i h));
-    ticks = ticks;
-    first = first;
-    next = next;
-    once = once;
     returned = returned;
   }

@@ -82,7 +82,7 @@ module _ {log marks old out : List ℕ} {end from at i : ℕ} (writing : Writing
 
     -- indices and offsets are small
     pub writing-small : (i < maxRecords) × (from ≤ next) × (next ≤ length log)
-    writing-small = omega (arith, below, writing .along .readable .partial .few, end-of-it, along-within (writing .along) below e)
+    writing-small = omega (arith, below, writing .along .readable .partial .regular .few, end-of-it, along-within (writing .along) below e)
 
     module _ {size : ℕ} (s : (size ≡ ifSet (getD marks i 0) (next - from)) × (size ≤ next - from)) where
       -- the part of the log that is copied: record i, if it is marked

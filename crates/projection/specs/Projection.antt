@@ -7,7 +7,8 @@ use mathlib.Core.List.{List, [], _∷_}
 use lib.Dec.{eqb}
 use Rattle.record.specs.Choice.{if_then_else_}
 use Rattle.record.specs.declared.record.Record.{Record}
-use Rattle.reader.specs.Log.{isCall, isIn, operations}
+use Rattle.reader.specs.Log.{isCall, operations}
+use Rattle.table.specs.Table.{isIn}
 use Rattle.history.specs.History.{History, emptyRemove}
 use Rattle.history.specs.Operations.{historyOf}
 

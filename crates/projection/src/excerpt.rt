@@ -23,8 +23,8 @@ use judge::decide::decide;
 use patterns::find::ORDER;
 use reader::format::MAX_RECORDS;
 use reader::log::Checked;
-use reader::table::Table;
-use reader::table::push;
+use table::table::Table;
+use table::table::push;
 
 // The number of the refusal of an excerpt where the verdict is an order.
 const NO_PATTERN: u32 = 23;

@@ -2,7 +2,7 @@
 ghost use mathlib.Core.Path.{_≡_};
 ghost use Prim.Native.Nat.{_≤_, _<_};
 ghost use lib.ListN.{length};
-ghost use Rattle.reader.specs.Log.{maxRecords, isIn};
+ghost use Rattle.reader.specs.Log.{maxRecords};
 ghost use Rattle.projection.specs.Marks.{keepsIn, KeptAre};
 use history::operations::EMPTY_REMOVE;
 use history::operations::FIELDS;
@@ -10,27 +10,13 @@ use history::operations::KIND;
 use history::operations::Operations;
 use history::operations::VALUE;
 use reader::format::MAX_RECORDS;
+use table::table::is_in;
 
 // The mark of what is kept.
 pub const MARKED: u8 = 1;
 
 // For each operation, or for each record, MARKED if it is kept, or 0.
 pub type Marks = [u8; MAX_RECORDS];
-
-// Whether a number is in a list. The loop runs to the end, so that it is done several entries at a time.
-fn is_in(x: u32, list: &[u32]) -> bool
-    ensures { λ r. ⌜ r ≡ isIn x (now (list .entry)) ⌝ }
-{
-    let mut found = false;
-    let mut i = 0;
-    while i < list.len() {
-        if list[i] == x {
-            found = true;
-        }
-        i += 1;
-    }
-    found
-}
 
 // Whether an operation is kept: an empty remove by its number, any other operation by its value.
 fn keeps(table: &Operations, o: usize, empties: &[u32], values: &[u32]) -> bool
@@ -45,7 +31,13 @@ fn keeps(table: &Operations, o: usize, empties: &[u32], values: &[u32]) -> bool
 }
 
 // Notes for each operation of the table whether it is kept.
-pub fn keep(table: &Operations, count: usize, empties: &[u32], values: &[u32], kept: &mut Marks)
+pub(crate) fn keep(
+    table: &Operations,
+    count: usize,
+    empties: &[u32],
+    values: &[u32],
+    kept: &mut Marks,
+)
     requires { ⌜ (count ≤ maxRecords) × (length (now kept) ≡ maxRecords) ⌝ }
     ensures { λ _. ⌜ KeptAre (now (table .entry)) count (now (empties .entry)) (now (values .entry)) (now (kept .exit)) ⌝ }
 {

@@ -56,7 +56,7 @@ fn owner_of(r: Record, count: usize, callers: &mut Callers, recent: &mut Recent)
 }
 
 // Marks the records of a readable log as their operations are marked.
-pub fn mark(log: &[u8], records: usize, kept: &Marks, marks: &mut Marks)
+pub(crate) fn mark(log: &[u8], records: usize, kept: &Marks, marks: &mut Marks)
     requires { ⌜ Whole (now log) records × (length (now marks) ≡ maxRecords) ⌝ }
     ensures { λ _. ⌜ MarksAre (now (log .entry)) (now (kept .entry)) (now (marks .exit)) ⌝ }
 {

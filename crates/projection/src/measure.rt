@@ -18,7 +18,7 @@ pub struct Extent {
 }
 
 // Where the record at an offset ends.
-pub fn end_of(log: &[u8], at: usize) -> usize
+pub(crate) fn end_of(log: &[u8], at: usize) -> usize
     ensures { λ r. ⌜ r ≡ behind (decodeAt (now (log .entry)) at) at ⌝ }
 {
     match read_at(log, at) {
@@ -28,14 +28,14 @@ pub fn end_of(log: &[u8], at: usize) -> usize
 }
 
 // A number where the mark is set, and 0 where it is not.
-pub fn if_marked(mark: u8, x: usize) -> usize
+pub(crate) fn if_marked(mark: u8, x: usize) -> usize
     ensures { λ r. ⌜ (r ≡ ifSet mark x) × (r ≤ x) ⌝ }
 {
     if mark == MARKED { x } else { 0 }
 }
 
 // Adds up the marked records of a readable log.
-pub fn measure(log: &[u8], records: usize, marks: &Marks) -> Extent
+pub(crate) fn measure(log: &[u8], records: usize, marks: &Marks) -> Extent
     requires { ⌜ Whole (now log) records ⌝ }
     ensures { λ r. ⌜ Measured (now (log .entry)) (now (marks .entry)) r ⌝ }
 {

@@ -14,20 +14,21 @@ use Rattle.record.specs.declared.record.Event.the-variants.{CallAdd, CallRemove
 use Rattle.record.specs.declared.record.Record.{Record}
 use Rattle.record.specs.declared.record.Decoded.{Decoded}
 use Rattle.record.specs.declared.record.Decoded.the-variants.{Found, Malformed}
-use Rattle.reader.specs.Log.{logVersion, headerLength, maxRecords, countField, pendingCalls, pendingKind, addedValues, isIn, lastTick, Reading, readable, refused, eventFault, fault, afterDecode, unlessFault, scan, readPartial, pendingRemove, complete, readLog}
+use Rattle.reader.specs.Log.{logVersion, headerLength, maxRecords, countField, pendingCalls, pendingKind, addedValues, lastTick, Reading, readable, refused, eventFault, fault, afterDecode, unlessFault, scan, readPartial, pendingRemove, complete, readLog}
+use Rattle.table.specs.Table.{isIn}
 use Rattle.reader.specs.Readable.{Within}
 
 -- a refusal of a record has a number from 1 to 10
-abbrev pub Known : Decoded → Type 0
-Known (Found r next) = Unit {0}
-Known (Malformed number) = (1 ≤ number) × (number ≤ 10)
+abbrev pub Numbered : Decoded → Type 0
+Numbered (Found r next) = Unit {0}
+Numbered (Malformed number) = (1 ≤ number) × (number ≤ 10)
 
-pub decode-known : (log : List ℕ) (at : ℕ) → Known (decodeAt log at)
+pub decode-numbered : (log : List ℕ) (at : ℕ) → Numbered (decodeAt log at)
 unfolding decodeAt
-decode-known log at =
+decode-numbered log at =
     go (leb (length log) at) (ltb (length log - (at + 1)) (getD log at 0)) (eqb (getD log at 0) 0) (eqb (lengthOf (getD log (at + 1) 0)) 0) (eqb (getD log at 0) (lengthOf (getD log (at + 1) 0)))
   where
-    go : (a b c d e : Bool) → Known (if a then Malformed 1 else if b then Malformed 1 else if c then Malformed 5 else if d then Malformed 4 else if not e then Malformed 5 else Found (recordAt log at) (at + 1 + getD log at 0))
+    go : (a b c d e : Bool) → Numbered (if a then Malformed 1 else if b then Malformed 1 else if c then Malformed 5 else if d then Malformed 4 else if not e then Malformed 5 else Found (recordAt log at) (at + 1 + getD log at 0))
     go true b c d e = (lit≤ tt, lit≤ tt)
     go false true c d e = (lit≤ tt, lit≤ tt)
     go false false true d e = (lit≤ tt, lit≤ tt)
@@ -35,9 +36,9 @@ decode-known log at =
     go false false false false true = tt
     go false false false false false = (lit≤ tt, lit≤ tt)
 
-fault-known : (past : List Record) (r : Record) → fault past r ≤ 10
+fault-numbered : (past : List Record) (r : Record) → fault past r ≤ 10
 unfolding fault eventFault
-fault-known past r = tick (ltb (r .tick) (lastTick past))
+fault-numbered past r = tick (ltb (r .tick) (lastTick past))
   where
     pick : (b : Bool) (m n : ℕ) → m ≤ 10 → n ≤ 10 → (if b then m else n) ≤ 10
     pick true m n hm hn = hm
@@ -59,13 +60,13 @@ scan-within log zero at past h = go (ltb at (length log))
     go : (b : Bool) → Within (if b then refused 1 (length past) else readable (reverse past))
     go true = (lit≤ tt, lit≤ tt, omega arith)
     go false = omega (arith, length-reverse past)
-scan-within log (suc left) at past h = decoded (decodeAt log at) (decode-known log at) (λ r next. scan-within log left next (r ∷ past) (omega arith))
+scan-within log (suc left) at past h = decoded (decodeAt log at) (decode-numbered log at) (λ r next. scan-within log left next (r ∷ past) (omega arith))
   where
     faulted : (r : Record) (next : ℕ) (b : Bool) → eqb (fault past r) 0 ≡ b → Within (scan log left next (r ∷ past)) → Within (if b then scan log left next (r ∷ past) else refused (fault past r) (length past))
     faulted r next true t rest = rest
-    faulted r next false t rest = let n : (fault past r ≡ 0 → ⊥) = eqb-false (fault past r) 0 t in (omega arith, fault-known past r, omega arith)
+    faulted r next false t rest = let n : (fault past r ≡ 0 → ⊥) = eqb-false (fault past r) 0 t in (omega arith, fault-numbered past r, omega arith)
 
-    decoded : (d : Decoded) → Known d → ((r : Record) (next : ℕ) → Within (scan log left next (r ∷ past)))
+    decoded : (d : Decoded) → Numbered d → ((r : Record) (next : ℕ) → Within (scan log left next (r ∷ past)))
         → Within (afterDecode d (length past) (λ r next. unlessFault (fault past r) (length past) (scan log left next (r ∷ past))))
     decoded (Found r next) k rest = faulted r next (eqb (fault past r) 0) refl (rest r next)
     decoded (Malformed number) k rest = (k .0, k .1, omega arith)

@@ -12,8 +12,10 @@ use Rattle.record.specs.Choice.{if_then_else_}
 use Rattle.record.specs.declared.record.Event.{Event}
 use Rattle.record.specs.declared.record.Event.the-variants.{CallAdd, CallRemove, ReturnAdd, ReturnRemove}
 use Rattle.record.specs.declared.record.Record.{Record}
-use Rattle.reader.specs.Log.{Call, callOf, ofOthers, pendingCalls, pendingKind, earliestRemove, isIn}
-use Rattle.reader.specs.Tables.{position, without, clientsOf, code, kindOfFound, earliestCode}
+use Rattle.reader.specs.Log.{Call, callOf, ofOthers, pendingCalls, pendingKind, earliestRemove}
+use Rattle.table.specs.Table.{isIn}
+use Rattle.reader.specs.Tables.{clientsOf, code, kindOfFound, earliestCode}
+use Rattle.table.specs.Table.{position, without}
 
 -- calls with a kind that fits their code, 1 to 3, at most one for each client
 pub data Sound : List Call → Type 0 where

@@ -13,11 +13,12 @@ use borrow.Author.Tests.{eq-eqb, ne-eqb}
 use Rattle.record.specs.declared.record.Event.{Event}
 use Rattle.record.specs.declared.record.Event.the-variants.{CallAdd, CallRemove, ReturnAdd, ReturnRemove}
 use Rattle.record.specs.declared.record.Record.{Record}
-use Rattle.reader.specs.Log.{callOf, pendingCalls, pendingKind, earliestRemove, valueOf, addedValues, isIn, lastTick}
+use Rattle.reader.specs.Log.{callOf, pendingCalls, pendingKind, earliestRemove, valueOf, addedValues, lastTick}
+use Rattle.table.specs.Table.{isIn}
 use Rattle.reader.specs.Readable.{recordOf, asks, leaves, Next}
 use Rattle.reader.proofs.Calls.{own-kind, other-kind, pending-below, earliest-below}
 use Rattle.reader.proofs.Faults.{no-fault}
-use Rattle.reader.proofs.Lists.{isIn-append, isIn-last}
+use Rattle.table.proofs.Lists.{isIn-append, isIn-last}
 use Rattle.reader.proofs.Run.{Admits, none, more}
 use Rattle.reader.proofs.Search.{Lowest, Highest, None, lowest, highest, decEq}
 

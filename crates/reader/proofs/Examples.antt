@@ -7,7 +7,8 @@ use Rattle.record.specs.Record.{lengthOf, eventOf, encode, decodeAt}
 use Rattle.record.specs.declared.record.Removed.the-variants.{Value, Empty}
 use Rattle.record.specs.declared.record.Event.the-variants.{CallRemove, ReturnRemove}
 use Rattle.record.specs.declared.record.Decoded.the-variants.{Found}
-use Rattle.reader.specs.Log.{Reading, ofOthers, pendingCalls, pendingKind, earliestRemove, addedValues, isIn, eventFault, fault, scan, readPartial, readLog, operations, checked, encodeAll, encodeLog}
+use Rattle.reader.specs.Log.{Reading, ofOthers, pendingCalls, pendingKind, earliestRemove, addedValues, eventFault, fault, scan, readPartial, readLog, operations, checked, encodeAll, encodeLog}
+use Rattle.table.specs.Table.{isIn}
 use Rattle.reader.specs.declared.log.Checked.{Checked}
 use Rattle.reader.specs.declared.log.Checked.the-variants.{Readable, Refused}
 

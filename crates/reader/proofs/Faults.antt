@@ -10,7 +10,8 @@ use Rattle.record.specs.Choice.{if_then_else_}
 use Rattle.record.specs.declared.record.Event.{Event}
 use Rattle.record.specs.declared.record.Event.the-variants.{CallAdd, CallRemove, ReturnAdd, ReturnRemove}
 use Rattle.record.specs.declared.record.Record.{Record}
-use Rattle.reader.specs.Log.{pendingCalls, pendingKind, addedValues, isIn, lastTick, eventFault, fault}
+use Rattle.reader.specs.Log.{pendingCalls, pendingKind, addedValues, lastTick, eventFault, fault}
+use Rattle.table.specs.Table.{isIn}
 use Rattle.reader.specs.Readable.{asks}
 
 pub record NoFault (past : List Record) (r : Record) : Type 0 where

@@ -12,9 +12,10 @@ use Rattle.record.specs.declared.record.Event.the-variants.{CallAdd, CallRemove
 use Rattle.record.specs.declared.record.Record.{Record}
 use Rattle.reader.specs.Log.{maxRecords, Call, callOf, pendingCalls, pendingKind, valueOf, addedValues, lastTick, isCall, operations, eventFault, fault}
 use Rattle.reader.specs.Readable.{asks}
-use Rattle.reader.specs.Tables.{position, without, clientsOf, code, eventFaultIn, faultIn, PendingKept, AddedKept, Room, Kept, Begun, Ended, Pushed}
+use Rattle.reader.specs.Tables.{clientsOf, code, eventFaultIn, faultIn, PendingKept, AddedKept, Room, Kept, Begun, Ended}
+use Rattle.table.specs.Table.{position, without, Pushed}
 use Rattle.reader.specs.declared.scan.Progress.{Progress}
-use Rattle.reader.proofs.Lists.{map-without, length-without}
+use Rattle.table.proofs.Lists.{map-without, length-without}
 use Rattle.reader.proofs.Faults.{no-fault}
 use Rattle.reader.proofs.Calls.{Sound, others-all, others-without, pending-sound, pending-few, kind-found, client-in}
 

@@ -12,7 +12,7 @@ use Rattle.record.specs.Choice.{if_then_else_}
 use Rattle.record.specs.declared.record.Event.the-variants.{CallRemove}
 use Rattle.record.specs.declared.record.Record.{Record}
 use Rattle.reader.specs.Log.{maxRecords, encodeLog, Reading, readable, refused, pendingCalls, earliestRemove, pendingRemove, readPartial, complete, readLog, operations, checked}
-use Rattle.reader.specs.Readable.{Within, recordOf, asks, Next, PartialLog, ReadableLog, Writable}
+use Rattle.reader.specs.Readable.{Within, recordOf, asks, Next, Regular, PartialLog, ReadableLog, Writable}
 use Rattle.reader.specs.declared.log.Checked.the-variants.{Readable, Refused}
 use Rattle.reader.proofs.Bounds.{partial-within, log-within}
 use Rattle.reader.proofs.Keeping.{operations-few}
@@ -24,21 +24,14 @@ use Rattle.reader.proofs.Run.{Admits, none, Read, reads, run-admits}
 -- The records of a readable log of bytes are orderly, and a log of orderly records is read as them.
 pub use Rattle.reader.proofs.Orderly.{readable-orderly, orderly-readable}
 -- Bytes that are handed in as one record behind a log are a record's that can be written there exactly if nothing is wrong with them.
-pub use Rattle.reader.proofs.Feeding.{RecordBehind, faultless-is-record, record-is-faultless, writable-more}
+pub use Rattle.reader.proofs.Feeding.{RecordBehind, faultless-short, faultless-is-record, record-is-faultless, writable-more}
 -- the bytes of records with one more behind them
 pub use Rattle.reader.proofs.Bytes.{encode-snoc}
 
 -- what holds of the records as they were read, latest first, holds of the log's records
-read-partial : {log : List ℕ} {records : List Record} → Read log records → PartialLog log records
-read-partial {log} {records} read = record {
-  version = read .version;
-  count = count-law read;
+read-regular : {log : List ℕ} {records : List Record} → Read log records → Regular records
+read-regular {log} {records} read = record {
   few = few-law read;
-  stands = stands-law read;
-  fills = fills-law read;
-  short = short-law read;
-  bytes = bytes-law read;
-  writable = writable-law read;
   ticks = rw (read .are) (λ i j l h. ticks-law (read .all) sound i j l (omega (arith, length-reverse (read .all))));
   first = rw (read .are) (λ j h. first-law (read .all) sound j (omega (arith, length-reverse (read .all))));
   next = rw (read .are) (next-law (read .all) sound);
@@ -47,6 +40,18 @@ read-partial {log} {records} read = record {
   where
     sound : Admits (read .all)
     sound = run-admits (read .run) none
+
+read-partial : {log : List ℕ} {records : List Record} → Read log records → PartialLog log records
+read-partial read = record {
+  version = read .version;
+  count = count-law read;
+  stands = stands-law read;
+  fills = fills-law read;
+  short = short-law read;
+  bytes = bytes-law read;
+  writable = writable-law read;
+  regular = read-regular read;
+}
 
 read-returned : {log : List ℕ} {records : List Record} → Read log records → length records ≤ pendingRemove records
     → (i : ℕ) → i < length records → recordOf records i .event ≡ CallRemove → (j : ℕ) × Next records i j
@@ -99,7 +104,7 @@ called {records = records} l j h n = go (precedes-law records j h)
   where
     go : ((i : ℕ) × Next records i j) ⊎ ((k : ℕ) → k < j → recordOf records k .client ≡ recordOf records j .client → ⊥) → (i : ℕ) × Next records i j
     go (inl before) = before
-    go (inr alone) = absurd (n (l .first j h alone))
+    go (inr alone) = absurd (n (l .regular .first j h alone))
 
 -- the other direction: a log of records that can be written is read as those records
 pub written-log : (records : List Record) → length records ≤ maxRecords → Writable [] records → readPartial (encodeLog records) ≡ readable records

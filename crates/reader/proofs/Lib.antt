@@ -2,13 +2,13 @@ pub mod Bounds
 pub mod Bytes
 pub mod Calls
 pub mod Clients
+pub mod Codes
 pub mod Encoding
 pub mod Examples
 pub mod Faults
 pub mod Feeding
 pub mod Keeping
 pub mod Laws
-pub mod Lists
 pub mod Orderly
 pub mod Run
 pub mod Scanning

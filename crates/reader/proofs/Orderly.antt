@@ -13,7 +13,8 @@ use Rattle.record.specs.Record.{Small}
 use Rattle.record.specs.declared.record.Event.{Event}
 use Rattle.record.specs.declared.record.Event.the-variants.{CallAdd, CallRemove, ReturnAdd, ReturnRemove}
 use Rattle.record.specs.declared.record.Record.{Record}
-use Rattle.reader.specs.Log.{encodeLog, readable, pendingCalls, pendingKind, pendingRemove, addedValues, isIn, lastTick, fault, complete, readLog}
+use Rattle.reader.specs.Log.{encodeLog, readable, pendingCalls, pendingKind, pendingRemove, addedValues, lastTick, fault, complete, readLog}
+use Rattle.table.specs.Table.{isIn}
 use Rattle.reader.specs.Readable.{recordOf, asks, leaves, Next, Writable, none, more, ReadableLog, Orderly}
 use Rattle.reader.proofs.Calls.{pending-sound, earliest-absent}
 use Rattle.reader.proofs.Clients.{nth, last-tick, kind-latest, kind-absent, value-absent, precedes-law}
@@ -30,12 +31,8 @@ writable-small (more small ok rest) (suc i) h = writable-small rest i (omega ari
 -- the records of a readable log are orderly
 pub readable-orderly : {log : List ℕ} {records : List Record} → ReadableLog log records → Bytes log → Orderly records
 readable-orderly l bytes = record {
-  few = l .partial .few;
+  regular = l .partial .regular;
   small = writable-small (l .partial .writable bytes);
-  ticks = l .partial .ticks;
-  first = l .partial .first;
-  next = l .partial .next;
-  once = l .partial .once;
   returned = l .returned;
 }
 
@@ -61,7 +58,7 @@ module _ (past rest : List Record) (r : Record) (orderly : Orderly (reverse past
 
   -- its tick does not fall
   tick-kept : lastTick past ≤ r .tick
-  tick-kept = last-tick past (r .tick) (λ i h. rw (before i h, here) at (orderly .ticks i (length past) (omega arith) there))
+  tick-kept = last-tick past (r .tick) (λ i h. rw (before i h, here) at (orderly .regular .ticks i (length past) (omega arith) there))
 
   -- the call that it asks for is pending
   call-pending : pendingKind (pendingCalls past) (r .client) ≡ asks (r .event)
@@ -71,14 +68,14 @@ module _ (past rest : List Record) (r : Record) (orderly : Orderly (reverse past
       go (inl (i, next)) =
           let was : recordOf all i ≡ nth past i = before i (next .later) in
           let own : r .client ≡ nth past i .client = rw (here, was) at (next .same) in
-          let asked : asks (r .event) ≡ leaves (nth past i .event) = rw (here, was) at (orderly .next i (length past) next) in
+          let asked : asks (r .event) ≡ leaves (nth past i .event) = rw (here, was) at (orderly .regular .next i (length past) next) in
           let latest = kind-latest past i (next .later) (λ k a b q. next .between k a b (rw (before k b, was) q)) in
           ap (pendingKind (pendingCalls past)) own ∙ latest ∙ sym asked
-      go (inr alone) = kind-absent past (r .client) (λ k h q. alone k h (rw (before k h, here) q)) ∙ sym (rw here at (orderly .first (length past) there alone))
+      go (inr alone) = kind-absent past (r .client) (λ k h q. alone k h (rw (before k h, here) q)) ∙ sym (rw here at (orderly .regular .first (length past) there alone))
 
   -- a value that it calls to be added is a new one
   value-new : (v : ℕ) → r .event ≡ CallAdd v → isIn v (addedValues past) ≡ false
-  value-new v e = value-absent past v (λ i h q. orderly .once i (length past) v h there (rw (before i h) q) (rw here e))
+  value-new v e = value-absent past v (λ i h q. orderly .regular .once i (length past) v h there (rw (before i h) q) (rw here e))
 
   -- so nothing is wrong with it
   fault-free : fault past r ≡ 0
@@ -117,5 +114,5 @@ none-pending records orderly =
 -- a log of orderly records is read as them
 pub orderly-readable : (records : List Record) → Orderly records → readLog (encodeLog records) ≡ readable records
 orderly-readable records orderly =
-    ap complete (log-encodes records (orderly .few) (orderly-writable [] records orderly))
+    ap complete (log-encodes records (orderly .regular .few) (orderly-writable [] records orderly))
     ∙ rw (none-pending records orderly, le-ltb (length records) (length records) (omega arith)) refl

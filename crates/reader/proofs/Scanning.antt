@@ -12,7 +12,8 @@ use Rattle.record.specs.Record.{decodeAt}
 use Rattle.record.specs.declared.record.Record.{Record}
 use Rattle.record.specs.declared.record.Decoded.the-variants.{Found, Malformed}
 use Rattle.reader.specs.Log.{Reading, readable, refused, logVersion, headerLength, maxRecords, countField, fault, scan, readPartial, operations, pendingCalls, earliestRemove, pendingRemove, complete, checked}
-use Rattle.reader.specs.Tables.{faultIn, earliestCode, Fits as InUse, Room, Kept, Admitted, Goes, Stepped, AllKept, Passed, through, stopped, FaultBehind, headerOf, surveyed}
+use Rattle.reader.specs.Tables.{faultIn, earliestCode, Room, Kept, Admitted, Goes, Stepped, AllKept, Passed, through, stopped, FaultBehind, headerOf, surveyed}
+use Rattle.table.specs.Table.{Fits as InUse}
 use Rattle.reader.specs.declared.scan.Progress.{Progress}
 use Rattle.reader.specs.declared.scan.Step.{Step}
 use Rattle.reader.specs.declared.scan.Step.the-variants.{Next, Stop}

@@ -1,7 +1,7 @@
 -- Document 01, "The log" and "Turned down by what was handed in": what a whole log is read as. The records come one after the
 -- other; each is held against those before it, which stand here latest first; then left bytes, then 10.
 use Prim.Native.Nat.{ℕ, zero, suc, _+_}
-use mathlib.Core.Bool.{Bool, true, false, not}
+use mathlib.Core.Bool.{not}
 use mathlib.Core.List.{List, [], _∷_, _++_, reverse}
 use lib.ListN.{length, getD}
 use lib.Dec.{ltb, eqb}
@@ -15,6 +15,7 @@ use Rattle.record.specs.declared.record.Record.{Record}
 use Rattle.record.specs.declared.record.Decoded.{Decoded}
 use Rattle.record.specs.declared.record.Decoded.the-variants.{Found, Malformed}
 use Rattle.buffer.specs.Buffer.{put}
+use Rattle.table.specs.Table.{isIn}
 use Rattle.reader.specs.declared.log.Checked.{Checked}
 use Rattle.reader.specs.declared.log.Checked.the-variants.{Readable, Refused}
 
@@ -90,11 +91,6 @@ valueOf (ReturnRemove x) = []
 unfoldable pub addedValues : List Record → List ℕ
 addedValues [] = []
 addedValues (r ∷ past) = addedValues past ++ valueOf (r .event)
-
--- whether a number is in a list
-unfoldable pub isIn : ℕ → List ℕ → Bool
-isIn v [] = false
-isIn v (x ∷ xs) = if eqb x v then true else isIn v xs
 
 -- the tick of the record before, 0 if there is none
 abbrev pub lastTick : List Record → ℕ

@@ -57,20 +57,10 @@ pub data Writable : List Record → List Record → Type 0 where
   none : {past : List Record} → Writable past []
   more : {past records : List Record} {r : Record} → Small r → fault past r ≡ 0 → Writable (r ∷ past) records → Writable past (r ∷ records)
 
--- A log that is readable but for 10, and its records.
-pub record PartialLog (log : List ℕ) (records : List Record) : Type 0 where
-  -- "Byte 0 is the version, 1. Bytes 1 and 2 are n, the number of records, at most 1,024."
-  pub version : getD log 0 0 ≡ logVersion
-  pub count : length records ≡ countField log
+-- What the records of a log obey that is readable but for 10.
+pub record Regular (records : List Record) : Type 0 where
+  -- "n, the number of records, at most 1,024"
   pub few : length records ≤ maxRecords
-  -- where each record stands, and that they fill the log
-  pub stands : (i : ℕ) → i < length records → decodeAt log (offsetOf records i) ≡ Found (recordOf records i) (offsetOf records (i + 1))
-  pub fills : offsetOf records (length records) ≡ length log
-  pub short : length log ≤ maxLength
-  -- the records put back into bytes are the log
-  pub bytes : Bytes log → encodeLog records ≡ log
-  -- and they can be written: their fields fit, and none has a fault behind those before it
-  pub writable : Bytes log → Writable [] records
   -- "Ticks are checked not to fall."
   pub ticks : (i j : ℕ) → i ≤ j → j < length records → recordOf records i .tick ≤ recordOf records j .tick
   -- a client's records go call, return, call, ..: the first asks for no pending call, and each later one for what the one
@@ -80,19 +70,30 @@ pub record PartialLog (log : List ℕ) (records : List Record) : Type 0 where
   -- no value is called to be added twice
   pub once : (i j v : ℕ) → i < j → j < length records → recordOf records i .event ≡ CallAdd v → recordOf records j .event ≡ CallAdd v → ⊥
 
+-- A log that is readable but for 10, and its records.
+pub record PartialLog (log : List ℕ) (records : List Record) : Type 0 where
+  -- "Byte 0 is the version, 1. Bytes 1 and 2 are n, the number of records"
+  pub version : getD log 0 0 ≡ logVersion
+  pub count : length records ≡ countField log
+  -- where each record stands, and that they fill the log
+  pub stands : (i : ℕ) → i < length records → decodeAt log (offsetOf records i) ≡ Found (recordOf records i) (offsetOf records (i + 1))
+  pub fills : offsetOf records (length records) ≡ length log
+  pub short : length log ≤ maxLength
+  -- the records put back into bytes are the log
+  pub bytes : Bytes log → encodeLog records ≡ log
+  -- and they can be written: their fields fit, and none has a fault behind those before it
+  pub writable : Bytes log → Writable [] records
+  -- what they obey, one by one
+  pub regular : Regular records
+
 -- A readable log, and its records.
 pub record ReadableLog (log : List ℕ) (records : List Record) : Type 0 where
   pub partial : PartialLog log records
   -- every remove has a return: its client's next record, which asks for a remove's call by `next`
   pub returned : (i : ℕ) → i < length records → recordOf records i .event ≡ CallRemove → (j : ℕ) × Next records i j
 
--- What makes records those of a readable log: there is room for them, their fields fit, ticks do not fall, each client's records go call,
--- return, call, .., no value is called to be added twice and every remove has a return. The parts are those of the records above.
+-- What makes records those of a readable log: they are regular, their fields fit and every remove has a return.
 pub record Orderly (records : List Record) : Type 0 where
-  pub few : length records ≤ maxRecords
+  pub regular : Regular records
   pub small : (i : ℕ) → i < length records → Small (recordOf records i)
-  pub ticks : (i j : ℕ) → i ≤ j → j < length records → recordOf records i .tick ≤ recordOf records j .tick
-  pub first : (j : ℕ) → j < length records → ((k : ℕ) → k < j → recordOf records k .client ≡ recordOf records j .client → ⊥) → asks (recordOf records j .event) ≡ 0
-  pub next : (i j : ℕ) → Next records i j → asks (recordOf records j .event) ≡ leaves (recordOf records i .event)
-  pub once : (i j v : ℕ) → i < j → j < length records → recordOf records i .event ≡ CallAdd v → recordOf records j .event ≡ CallAdd v → ⊥
   pub returned : (i : ℕ) → i < length records → recordOf records i .event ≡ CallRemove → (j : ℕ) × Next records i j

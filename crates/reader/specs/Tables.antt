@@ -1,16 +1,17 @@
 -- What the code keeps of the records that it has read, in tables of numbers. What a readable log is can be understood without this file.
-use Prim.Native.Nat.{ℕ, suc, _+_, _-_, _*_, _/_, _%_, _≤_, _<_}
+use Prim.Native.Nat.{ℕ, suc, _+_, _-_, _*_, _/_, _%_, _<_}
 use mathlib.Core.Path.{_≡_}
 use mathlib.Core.Bool.{not}
-use mathlib.Core.List.{List, [], _∷_, _++_, map, reverse}
-use lib.ListN.{length, getD, take, drop}
+use mathlib.Core.List.{List, [], _∷_, map, reverse}
+use lib.ListN.{length, getD, take}
 use lib.Dec.{ltb, eqb}
 use Rattle.record.specs.Choice.{if_then_else_}
 use Rattle.record.specs.Refusal.{wrongBytes, wrongVersion, tooManyRecords, tickFell, clientBusy, noSuchCall, addedTwice}
 use Rattle.record.specs.declared.record.Event.{Event}
 use Rattle.record.specs.declared.record.Event.the-variants.{CallAdd, CallRemove, ReturnAdd, ReturnRemove}
 use Rattle.record.specs.declared.record.Record.{Record}
-use Rattle.reader.specs.Log.{logVersion, headerLength, maxRecords, countField, addCall, removeCall, Call, Reading, readable, refused, pendingCalls, addedValues, lastTick, operations, pendingRemove, isIn, fault, scan}
+use Rattle.table.specs.Table.{isIn, position, without, Pushed}
+use Rattle.reader.specs.Log.{logVersion, headerLength, maxRecords, countField, addCall, removeCall, Call, Reading, readable, refused, pendingCalls, addedValues, lastTick, operations, pendingRemove, fault, scan}
 use Rattle.reader.specs.Feed.{faultBehind}
 use Rattle.reader.specs.declared.scan.Progress.{Progress}
 use Rattle.reader.specs.declared.scan.Step.{Step}
@@ -21,15 +22,6 @@ use Rattle.reader.specs.declared.log.Header.{Header}
 use Rattle.reader.specs.declared.log.Header.the-variants.{Count, Wrong}
 use Rattle.reader.specs.declared.scan.Survey.{Survey}
 use Rattle.reader.specs.declared.scan.Survey.the-variants.{Whole, Broken}
-
--- the index of the first x in a list, or its length
-unfoldable pub position : ℕ → List ℕ → ℕ
-position x [] = 0
-position x (y ∷ ys) = if eqb y x then 0 else suc (position x ys)
-
--- a list without what stands at an index
-abbrev pub without : {A : Type 0} → ℕ → List A → List A
-without k xs = take k xs ++ drop (suc k) xs
 
 -- the clients of calls
 abbrev pub clientsOf : List Call → List ℕ
@@ -48,16 +40,6 @@ kindOfFound client clients codes =
 unfoldable pub earliestCode : List ℕ → ℕ → ℕ
 earliestCode [] none = none
 earliestCode (c ∷ cs) none = if eqb (c % 4) removeCall then c / 4 else earliestCode cs none
-
--- A table has as many entries as a log may have records, of which the first `count` are in use.
-pub record Fits (count : ℕ) (table : List ℕ) : Type 0 where
-  pub within : count ≤ maxRecords
-  pub sized : length table ≡ maxRecords
-
--- x stands behind the entries in use.
-pub record Pushed (count x : ℕ) (table table' : List ℕ) : Type 0 where
-  pub holds : take (count + 1) table' ≡ take count table ++ (x ∷ [])
-  pub sized : length table' ≡ maxRecords
 
 -- There is room for one record more.
 pub record Room (p : Progress) (clients codes values : List ℕ) : Type 0 where

@@ -3,4 +3,3 @@ pub mod format;
 pub mod log;
 mod pending;
 mod scan;
-pub mod table;

@@ -4,11 +4,12 @@ ghost use mathlib.Core.Path.{_≡_};
 ghost use Prim.Native.Nat.{_+_, _*_, _<_};
 ghost use lib.ListN.{take};
 ghost use Rattle.reader.specs.Log.{maxRecords};
-ghost use Rattle.reader.specs.Tables.{Fits, Begun, Ended, kindOfFound, earliestCode};
-use crate::table::Table;
-use crate::table::find;
-use crate::table::push;
-use crate::table::remove;
+ghost use Rattle.reader.specs.Tables.{Begun, Ended, kindOfFound, earliestCode};
+ghost use Rattle.table.specs.Table.{Fits};
+use table::table::Table;
+use table::table::find;
+use table::table::push;
+use table::table::remove;
 
 // The kinds of a call.
 pub const ADD_CALL: u32 = 1;
@@ -23,7 +24,7 @@ fn size(x: u32) -> usize
 }
 
 // The kind of a client's pending call, 0 where it has none.
-pub fn pending_kind(clients: &Table, codes: &Table, count: usize, client: u32) -> u32
+pub(crate) fn pending_kind(clients: &Table, codes: &Table, count: usize, client: u32) -> u32
     requires { ⌜ Fits count (now clients) × Fits count (now codes) ⌝ }
     ensures { λ r. ⌜ r ≡ kindOfFound client (take count (now (clients .entry))) (take count (now (codes .entry))) ⌝ }
 {
@@ -32,7 +33,7 @@ pub fn pending_kind(clients: &Table, codes: &Table, count: usize, client: u32) -
 }
 
 // The index of the earliest pending remove, `none` where there is none.
-pub fn earliest_remove(codes: &Table, count: usize, none: usize) -> usize
+pub(crate) fn earliest_remove(codes: &Table, count: usize, none: usize) -> usize
     requires { ⌜ Fits count (now codes) ⌝ }
     ensures { λ r. ⌜ r ≡ earliestCode (take count (now (codes .entry))) none ⌝ }
 {
@@ -55,7 +56,7 @@ fn code_of(index: usize, kind: u32) -> u32
 }
 
 // Puts a call behind those that are pending.
-pub fn begin_call(
+pub(crate) fn begin_call(
     clients: &mut Table,
     codes: &mut Table,
     count: usize,
@@ -71,7 +72,7 @@ pub fn begin_call(
 }
 
 // Takes a client's pending call out of the tables, and answers how many are left.
-pub fn end_call(clients: &mut Table, codes: &mut Table, count: usize, client: u32) -> usize
+pub(crate) fn end_call(clients: &mut Table, codes: &mut Table, count: usize, client: u32) -> usize
     requires { ⌜ Fits count (now clients) × Fits count (now codes) ⌝ }
     ensures { λ left. ⌜ Ended count client (now (clients .entry)) (now (codes .entry)) left (now (clients .exit)) (now (codes .exit)) ⌝ }
 {

@@ -16,9 +16,6 @@ use crate::pending::begin_call;
 use crate::pending::earliest_remove;
 use crate::pending::end_call;
 use crate::pending::pending_kind;
-use crate::table::Table;
-use crate::table::contains;
-use crate::table::push;
 use record::cursor::read_at;
 use record::record::Decoded;
 use record::record::Event;
@@ -28,6 +25,9 @@ use record::refusal::CLIENT_BUSY;
 use record::refusal::NO_SUCH_CALL;
 use record::refusal::TICK_FELL;
 use record::refusal::WRONG_BYTES;
+use table::table::Table;
+use table::table::contains;
+use table::table::push;
 
 // How far a scan has come: the offset of the next record, the last tick, how many calls are pending, how many values were
 // added and how many operations were called.
@@ -229,7 +229,7 @@ fn read_all(
 }
 
 // Reads the records behind the header, and the end of the log.
-pub fn read_records(log: &[u8], count: usize) -> Survey
+pub(crate) fn read_records(log: &[u8], count: usize) -> Survey
     requires { ⌜ count ≤ maxRecords ⌝ }
     ensures { λ r. ⌜ r ≡ surveyed (scan (now (log .entry)) count headerLength []) ⌝ }
 {
@@ -267,7 +267,7 @@ fn fault_behind(bytes: &[u8], p: Progress, clients: &Table, codes: &Table, value
 }
 
 // What bytes come to that are handed in behind the records of a log.
-pub fn extend_records(log: &[u8], count: usize, bytes: &[u8]) -> Extension
+pub(crate) fn extend_records(log: &[u8], count: usize, bytes: &[u8]) -> Extension
     requires { ⌜ count ≤ maxRecords ⌝ }
     ensures { λ r. ⌜ r ≡ extended (scan (now (log .entry)) count headerLength []) (now (bytes .entry)) ⌝ }
 {

@@ -10,12 +10,13 @@ use mathlib.Core.List.{List, [], _∷_}
 use lib.ListN.{length, getD, set, drop, length-set}
 use lib.Seq.{drop-cons, drop-length, getD-set-same, getD-set-other}
 use Rattle.reader.specs.Log.{maxRecords}
+use Rattle.history.specs.Answers.{Decides}
 use Rattle.history.specs.History.{History, Precedes}
 use Rattle.history.specs.Linearization.{Makes, Fifo, done, then, placed, Linearization}
 use Rattle.history.proofs.Queues.{makes-one, fifo-first}
 use Rattle.history.proofs.Basics.{up-to}
 use Rattle.replay.proofs.Marking.{total-mark}
-use Rattle.replay.specs.Trial.{Unmarked, waiting, Served, Serves, Kept, After, Stepped, AllPlaced, AllMarked, Decides}
+use Rattle.replay.specs.Trial.{Unmarked, waiting, Served, Serves, Kept, After, Stepped, AllPlaced, AllMarked}
 use Rattle.replay.specs.declared.order.Progress.{Progress}
 use Rattle.replay.specs.declared.order.Step.{Step}
 use Rattle.replay.specs.declared.order.Step.the-variants.{Placed, Illegal}

@@ -14,11 +14,6 @@ use Rattle.replay.specs.declared.order.Progress.{Progress}
 use Rattle.replay.specs.declared.order.Step.{Step}
 use Rattle.replay.specs.declared.order.Step.the-variants.{Placed, Illegal}
 
--- The answer of a test of P.
-abbrev pub Decides : Type 0 → Bool → Type 0
-Decides P true = P
-Decides P false = P → ⊥
-
 -- how many of the first marks are set
 unfoldable pub total : ℕ → List ℕ → ℕ
 total zero marks = 0

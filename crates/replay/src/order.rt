@@ -6,11 +6,12 @@ ghost use mathlib.Core.Logic.{_⊎_};
 ghost use Prim.Native.Nat.{_≤_, _<_};
 ghost use lib.ListN.{length};
 ghost use Rattle.reader.specs.Log.{maxRecords};
+ghost use Rattle.history.specs.Answers.{Decides};
 ghost use Rattle.history.specs.Linearization.{Linearization};
 ghost use Rattle.history.specs.Sheet.{listedOn};
 ghost use Rattle.history.specs.Table.{tabled};
 ghost use Rattle.replay.specs.Replay.{isOrderSheet};
-ghost use Rattle.replay.specs.Trial.{Decides, Unmarked, Room, Serves, StepsIn, TriedIn, ReturnIsMarked, AllMarked};
+ghost use Rattle.replay.specs.Trial.{Unmarked, Room, Serves, StepsIn, TriedIn, ReturnIsMarked, AllMarked};
 use crate::sheet::listed_on;
 use crate::sheet::operation_at;
 use history::operations::ADD;
@@ -184,7 +185,7 @@ fn all_marked(table: &Operations, count: usize, end: usize, marks: &Marks) -> bo
 }
 
 // Whether the order that a sheet lists is legal for the history that the table holds.
-pub fn is_linearization(table: &Operations, count: usize, end: usize, sheet: &[u8]) -> bool
+pub(crate) fn is_linearization(table: &Operations, count: usize, end: usize, sheet: &[u8]) -> bool
     requires { ⌜ (count ≤ maxRecords) × (end ≤ maxRecords) × (isOrderSheet (now sheet) ≡ true) ⌝ }
     ensures { λ r. ⌜ Decides (Linearization (tabled count end (now (table .entry))) (listedOn (now (sheet .entry)))) r ⌝ }
 {

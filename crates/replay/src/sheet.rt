@@ -14,7 +14,7 @@ const ORDER: u8 = 0;
 const HEADER: usize = 4;
 
 // How many operations a sheet says that it lists.
-pub fn listed_on(sheet: &[u8]) -> usize
+pub(crate) fn listed_on(sheet: &[u8]) -> usize
     requires { ⌜ sheetHeader ≤ length (now sheet) ⌝ }
     ensures { λ k. ⌜ (k ≡ listedField (now (sheet .entry))) × (k < 65536) ⌝ }
 {
@@ -22,7 +22,7 @@ pub fn listed_on(sheet: &[u8]) -> usize
 }
 
 // Whether a sheet lists an order and is as long as that order: if not, it is refused under 11.
-pub fn is_order_sheet(sheet: &[u8]) -> bool
+pub(crate) fn is_order_sheet(sheet: &[u8]) -> bool
     ensures { λ r. ⌜ r ≡ isOrderSheet (now (sheet .entry)) ⌝ }
 {
     if sheet.len() < HEADER {
@@ -38,7 +38,7 @@ pub fn is_order_sheet(sheet: &[u8]) -> bool
 }
 
 // The operation at a place of the order.
-pub fn operation_at(sheet: &[u8], i: usize) -> usize
+pub(crate) fn operation_at(sheet: &[u8], i: usize) -> usize
     requires { ⌜ sheetHeader + 2 * i + 2 ≤ length (now sheet) ⌝ }
     ensures { λ o. ⌜ o ≡ bigEndian (now (sheet .entry)) (sheetHeader + 2 * i) 2 ⌝ }
 {

@@ -5,7 +5,7 @@ use mathlib.Core.Path.{_≡_, refl}
 use mathlib.Core.Logic.{_⊎_, inl, inr}
 use mathlib.Core.List.{List}
 use lib.ListN.{take}
-use Rattle.reader.specs.Tables.{Pushed}
+use Rattle.table.specs.Table.{Pushed}
 use Rattle.history.specs.History.{History}
 use Rattle.history.specs.Linearization.{Listed}
 use Rattle.violations.specs.Found.{Due}

@@ -7,7 +7,7 @@ use mathlib.Core.List.{List, [], _∷_}
 use lib.ListN.{length, take, drop}
 use lib.Seq.{slice-cons, drop-append-le, length-take-le}
 use Rattle.reader.specs.Log.{maxRecords}
-use Rattle.reader.specs.Tables.{Pushed}
+use Rattle.table.specs.Table.{Pushed}
 use Rattle.history.specs.History.{add, remove}
 use Rattle.search.specs.Searching.{Queues}
 use Rattle.search.specs.declared.search.Stand.{Stand}

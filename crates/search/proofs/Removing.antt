@@ -6,7 +6,7 @@ use mathlib.Core.Path.{_≡_, sym, ap, _∙_}
 use mathlib.Core.List.{List}
 use lib.ListN.{length, take, drop, length-append, length-drop, List·getD-append}
 use lib.Seq.{length-take-le, getD-take, getD-drop, getD-append-add}
-use Rattle.reader.specs.Tables.{without}
+use Rattle.table.specs.Table.{without}
 use Rattle.history.specs.Linearization.{placed, Listed}
 
 module _ (xs : List ℕ) (k : ℕ) (inside : k < length xs) where

@@ -7,7 +7,7 @@ use mathlib.Core.List.{List, [], _∷_, _++_, append-nil}
 use lib.ListN.{length, getD, take, length-append}
 use lib.Seq.{length-take-le, getD-take, slice-empty, append-snoc}
 use Rattle.reader.specs.Log.{maxRecords}
-use Rattle.reader.specs.Tables.{without, Pushed}
+use Rattle.table.specs.Table.{without, Pushed}
 use Rattle.history.specs.History.{History}
 use Rattle.history.specs.Linearization.{placed, Listed}
 use Rattle.history.proofs.Counting.{different-are-few}

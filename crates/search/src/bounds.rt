@@ -51,7 +51,7 @@ fn limit_of(
 }
 
 // Fills the table of limits.
-pub fn fill_limits(
+pub(crate) fn fill_limits(
     table: &Operations,
     count: usize,
     end: usize,
@@ -70,14 +70,14 @@ pub fn fill_limits(
 }
 
 // The smaller of two numbers.
-pub fn tighter(a: u32, b: u32) -> u32
+pub(crate) fn tighter(a: u32, b: u32) -> u32
     ensures { λ r. ⌜ (r ≤ a) × (r ≤ b) × ((r ≡ a) ⊎ (r ≡ b)) ⌝ }
 {
     if a < b { a } else { b }
 }
 
 // Fills for each operation the least limit from it on, from the last operation down; behind the last there is none, the end and 1.
-pub fn fill_bounds(count: usize, end: usize, limit: &Numbers, bound: &mut Bounds)
+pub(crate) fn fill_bounds(count: usize, end: usize, limit: &Numbers, bound: &mut Bounds)
     requires { ⌜ (count ≤ maxRecords) × (end ≤ maxRecords) × (length (now limit) ≡ maxRecords) × (length (now bound) ≡ maxRecords + 1) ⌝ }
     ensures { λ _. ⌜ BoundTable count end (now (limit .entry)) 0 (now (bound .exit)) ⌝ }
 {

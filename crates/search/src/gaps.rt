@@ -60,7 +60,13 @@ fn sweep(end: usize, gaps: &mut Numbers)
 }
 
 // Fills the table of gaps.
-pub fn fill_gaps(table: &Operations, count: usize, end: usize, reach: &Numbers, gaps: &mut Numbers)
+pub(crate) fn fill_gaps(
+    table: &Operations,
+    count: usize,
+    end: usize,
+    reach: &Numbers,
+    gaps: &mut Numbers,
+)
     requires { ⌜ Held (tabled count end (now table)) × (length (now reach) ≡ maxRecords) × Cleared (now gaps) ⌝ }
     ensures { λ _. ⌜ Uncovered (tabled count end (now (table .entry))) (now (reach .entry)) end (now (gaps .exit)) ⌝ }
 {

@@ -4,12 +4,13 @@ ghost use mathlib.Core.Path.{_≡_};
 ghost use Prim.Native.Nat.{ℕ, _≤_, _<_};
 ghost use lib.ListN.{length, getD, take};
 ghost use Rattle.reader.specs.Log.{maxRecords};
+ghost use Rattle.history.specs.Answers.{Decides};
 ghost use Rattle.history.specs.Table.{tabled, callAt};
 ghost use Rattle.history.specs.Linearization.{Listed};
 ghost use Rattle.violations.specs.Search.{Single};
 ghost use Rattle.violations.specs.Found.{Due};
 ghost use Rattle.matching.specs.Held.{Held};
-ghost use Rattle.matching.specs.Answers.{First, Told};
+ghost use Rattle.matching.specs.Answers.{First};
 ghost use Rattle.matching.specs.Reaches.{Reaching};
 ghost use Rattle.search.specs.Bounds.{limitAt, BoundTable};
 ghost use Rattle.search.specs.Searching.{Limits, LeastOf, LeastReturn, Room, AdmittedOne, Admitted, Fit, QueueRoom, Queues, Placed, Ends};
@@ -26,8 +27,8 @@ use history::operations::RETURN;
 use history::operations::VALUE;
 use matching::values::Numbers;
 use reader::format::MAX_RECORDS;
-use reader::table::push;
-use reader::table::remove;
+use table::table::push;
+use table::table::remove;
 
 // How far the search has come: the operations below `next` have been enabled, and so many of them wait to be placed; the queue lies from
 // `head` up to `tail`; so many operations are placed.
@@ -49,7 +50,7 @@ pub struct Admission {
 // Whether the judge lists an operation: it has returned, or its value was removed.
 fn is_due(table: &Operations, count: usize, end: usize, reach: &Numbers, o: usize) -> bool
     requires { ⌜ Held (tabled count end (now table)) × Reaching (tabled count end (now table)) (now reach) × (o < count) ⌝ }
-    ensures { λ r. ⌜ Told (Due (tabled count end (now (table .entry))) o) r ⌝ }
+    ensures { λ r. ⌜ Decides (Due (tabled count end (now (table .entry))) o) r ⌝ }
 {
     if table[o * FIELDS + RETURN] < end as u32 {
         return true;
@@ -75,7 +76,7 @@ fn least_return(table: &Operations, count: usize, end: usize, waiting: &Numbers,
 // Whether the next operation is enabled: it is called before the least return of those that wait.
 fn is_enabled(table: &Operations, count: usize, a: Admission) -> bool
     requires { ⌜ count ≤ maxRecords ⌝ }
-    ensures { λ r. ⌜ Told ((a .next < count) × (callAt (now (table .entry)) (a .next) < a .least)) r ⌝ }
+    ensures { λ r. ⌜ Decides ((a .next < count) × (callAt (now (table .entry)) (a .next) < a .least)) r ⌝ }
 {
     if count <= a.next {
         return false;
@@ -166,7 +167,7 @@ fn fits(
     o: usize,
 ) -> bool
     requires { ⌜ Held (tabled count end (now table)) × QueueRoom (tabled count end (now table)) s (now queue) × (o < count) ⌝ }
-    ensures { λ r. ⌜ Told (Fit (tabled count end (now (table .entry))) (now (reach .entry)) (now (queue .entry)) s cap o) r ⌝ }
+    ensures { λ r. ⌜ Decides (Fit (tabled count end (now (table .entry))) (now (reach .entry)) (now (queue .entry)) s cap o) r ⌝ }
 {
     let at = o * FIELDS;
     let kind = table[at + KIND];
@@ -264,7 +265,7 @@ fn place(
 }
 
 // Searches for an order and lists it.
-pub fn search(
+pub(crate) fn search(
     table: &Operations,
     count: usize,
     end: usize,

@@ -4,41 +4,22 @@ use native.Mathlib.Omega.{arith}
 use mathlib.Core.Path.{_≡_, refl, sym}
 use mathlib.Core.Bool.{Bool, true, false, not}
 use mathlib.Core.List.{List, reverse}
-use lib.ListN.{length, getD}
+use lib.ListN.{length}
 use lib.Dec.{ltb, leb, eqb}
 use lib.Seq.{length-take-le}
 use borrow.Author.Tests.{eqb-true, eqb-false}
 use Rattle.record.specs.Choice.{if_then_else_}
-use Rattle.record.specs.Record.{decodeAt}
 use Rattle.record.specs.declared.record.Record.{Record}
-use Rattle.record.specs.declared.record.Decoded.{Decoded}
-use Rattle.record.specs.declared.record.Decoded.the-variants.{Found, Malformed}
-use Rattle.record.proofs.Records.{event-most}
 use Rattle.buffer.specs.Buffer.{bufferTooShort, lacksRoom}
 use Rattle.reader.specs.Log.{maxRecords, maxLength, Reading, readable, refused, readPartial}
-use Rattle.reader.specs.Feed.{isOneRecord, decodedFault, faultBehind, extended}
+use Rattle.reader.specs.Feed.{faultBehind, extended}
 use Rattle.reader.specs.declared.log.Extension.{Extension}
 use Rattle.reader.specs.declared.log.Extension.the-variants.{Unreadable, Full, Faulty, Fits}
-use Rattle.reader.proofs.Bounds.{Known, decode-known}
-use Rattle.reader.proofs.Bytes.{decode-inverts}
-use Rattle.reader.proofs.Laws.{partial-log}
+use Rattle.reader.proofs.Laws.{partial-log, faultless-short}
 use Rattle.session.specs.Session.{openStage, heldLog, stageRefusal, emptyLog, beginAnswer, fedAnswer, feedAnswer}
 use Rattle.session.specs.declared.answer.Answer.{Answer}
 use Rattle.session.specs.declared.answer.Answer.the-variants.{Accepted, Refused}
 use Rattle.session.proofs.Refusing.{unrefused-within}
-
--- a record that is accepted has at most 12 bytes
-faultless-short : (past : List Record) (bytes : List ℕ) → faultBehind past bytes ≡ 0 → length bytes ≤ 12
-unfolding faultBehind
-faultless-short past bytes z = go (isOneRecord bytes) refl z
-  where
-    decoded : (d : Decoded) → decodeAt bytes 0 ≡ d → length bytes ≡ getD bytes 0 0 + 1 → decodedFault past d ≡ 0 → length bytes ≤ 12
-    decoded (Found r next) e one z = omega (arith, decode-inverts bytes 0 e .long, event-most (r .event))
-    decoded (Malformed number) e one z = let known : Known (Malformed number) = rw e at (decode-known bytes 0) in absurd (omega (arith, known .0))
-
-    go : (t : Bool) → isOneRecord bytes ≡ t → (if not t then 1 else decodedFault past (decodeAt bytes 0)) ≡ 0 → length bytes ≤ 12
-    go true t z = decoded (decodeAt bytes 0) refl (eqb-true (length bytes) (getD bytes 0 0 + 1) t) z
-    go false t z = absurd (omega (arith, z))
 
 -- An accepted answer is the number of bytes of a record, or of the header, behind a log that is not too long; a refusal has a number and an index of
 -- at most 1,024.
@@ -71,7 +52,7 @@ feed-within stage used buffer bytes = standing (eqb (stageRefusal openStage stag
     held within (refused number index) e = (omega arith, omega arith)
     held within (readable records) e =
         let whole = partial-log (heldLog used buffer) records e in
-        fits records (whole .few) (omega (arith, whole .short, length-take-le used buffer within)) (leb maxRecords (length records)) (eqb (faultBehind (reverse records) bytes) 0) refl
+        fits records (whole .regular .few) (omega (arith, whole .short, length-take-le used buffer within)) (leb maxRecords (length records)) (eqb (faultBehind (reverse records) bytes) 0) refl
 
     standing : (t : Bool) → eqb (stageRefusal openStage stage used buffer) 0 ≡ t
         → AnswerWithin used (if not t then Refused (stageRefusal openStage stage used buffer) 0 else fedAnswer (extended (readPartial (heldLog used buffer)) bytes) used buffer bytes)

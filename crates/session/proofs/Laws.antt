@@ -130,7 +130,7 @@ module _ (log buffer : List ℕ) (bytes : Bytes log) (records : List Record) (re
   taken : (answersTo (begun buffer) (map encode records) ≡ map (λ r. Accepted (sizeOf r)) records) × Holding fed records (drop (sizes records) (drop headerLength buffer))
   taken =
       let whole = partial-log log records reads in
-      records-taken (begins .1) records (whole .writable bytes) (whole .few) (omega (arith, long, length-drop headerLength buffer))
+      records-taken (begins .1) records (whole .writable bytes) (whole .regular .few) (omega (arith, long, length-drop headerLength buffer))
 
   -- beginning and every feed are accepted, and a feed returns 1 + L
   pub begin-accepted : beginAnswer buffer ≡ Accepted headerLength

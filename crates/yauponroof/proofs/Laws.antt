@@ -38,7 +38,7 @@ use Rattle.session.specs.Session.{heldLog, stageRefusal, sessionReading}
 use Rattle.yauponroof.specs.Answer.{refusalUnit, refusal, checkAnswer, replayAnswer, judgeAnswer, Modest, JudgeAnswers, projectionAnswer, indexOf}
 
 -- an answer that is accepted, with what it returns, and one that is refused
-pub record Accepted (answer value : ℕ) : Type 0 where
+pub record AcceptedWith (answer value : ℕ) : Type 0 where
   pub high : answer / refusalUnit ≡ 0
   pub low : answer % refusalUnit ≡ value
 
@@ -47,14 +47,14 @@ pub record TurnedDown (answer number index : ℕ) : Type 0 where
   pub high : answer / refusalUnit ≡ number
   pub low : answer % refusalUnit ≡ index
 
-pub small-accepted : (value : ℕ) → value < refusalUnit → Accepted value value
+pub small-accepted : (value : ℕ) → value < refusalUnit → AcceptedWith value value
 small-accepted value h = record { high = omega arith; low = omega arith }
 
 pub refusal-turned-down : (number index : ℕ) → 1 ≤ number → index < refusalUnit → TurnedDown (refusal number index) number index
 refusal-turned-down number index n i = record { some = n; high = omega arith; low = omega arith }
 
 -- of a check
-pub check-accepted : (log : List ℕ) (records : List Record) → readLog log ≡ readable records → Accepted (checkAnswer (checked (readLog log))) (operations records)
+pub check-accepted : (log : List ℕ) (records : List Record) → readLog log ≡ readable records → AcceptedWith (checkAnswer (checked (readLog log))) (operations records)
 check-accepted log records e =
     let short : Within (readable records) = rw e at (within log) in
     rw e (small-accepted (operations records) (omega (arith, few-operations records)))
@@ -70,10 +70,10 @@ check-fits log {number} {index} e =
     omega arith
 
 -- of a replay
-pub replay-yes : (log sheet : List ℕ) → replayed (readLog log) sheet ≡ replay.Yes → Accepted (replayAnswer (replayed (readLog log) sheet)) 1
+pub replay-yes : (log sheet : List ℕ) → replayed (readLog log) sheet ≡ replay.Yes → AcceptedWith (replayAnswer (replayed (readLog log) sheet)) 1
 replay-yes log sheet e = rw e (small-accepted 1 (omega arith))
 
-pub replay-no : (log sheet : List ℕ) → replayed (readLog log) sheet ≡ replay.No → Accepted (replayAnswer (replayed (readLog log) sheet)) 0
+pub replay-no : (log sheet : List ℕ) → replayed (readLog log) sheet ≡ replay.No → AcceptedWith (replayAnswer (replayed (readLog log) sheet)) 0
 replay-no log sheet e = rw e (small-accepted 0 (omega arith))
 
 pub replay-turned-down : (log sheet : List ℕ) (number index : ℕ) → replayed (readLog log) sheet ≡ replay.Refused number index → TurnedDown (replayAnswer (replayed (readLog log) sheet)) number index
@@ -177,7 +177,7 @@ excerpt-fine log bytes out = go (readLog log) refl (within log)
     go (readable records) reads few = of-pattern records reads (first-violation (historyOf records))
     go (refused number index) reads few = fine-refused {number = number} {index = index} (few .0) (omega (arith, few .2))
 
-pub written-accepted : {n : ℕ} → Fine (projection.Written n) → Accepted (projectionAnswer (projection.Written n)) n
+pub written-accepted : {n : ℕ} → Fine (projection.Written n) → AcceptedWith (projectionAnswer (projection.Written n)) n
 written-accepted {n} (fine-written short) = small-accepted n (omega arith)
 
 pub projection-turned-down : {number index : ℕ} → Fine (projection.Refused number index) → TurnedDown (projectionAnswer (projection.Refused number index)) number index
@@ -220,7 +220,7 @@ refused-untouched (refused n i) Judge.turned-down e = refl
 -- What the number that judging answers says, of a log or of what a session holds: a sheet of so many bytes was written, or the call was refused and
 -- the sheet is as it was.
 pub data JudgeSays (reading : Reading) (sheet : List ℕ) (answer : ℕ) (sheet' : List ℕ) : Type 0 where
-  wrote : {verdict : Verdict} → Judge.Accepted verdict → Judges reading sheet verdict sheet' → Accepted answer (sheetBytes verdict) → JudgeSays reading sheet answer sheet'
+  wrote : {verdict : Verdict} → Judge.Accepted verdict → Judges reading sheet verdict sheet' → AcceptedWith answer (sheetBytes verdict) → JudgeSays reading sheet answer sheet'
   turned-down : {number index : ℕ} → Judges reading sheet (judge.Refused number index) sheet' → TurnedDown answer number index → sheet' ≡ sheet → JudgeSays reading sheet answer sheet'
 
 pub judge-says : {reading : Reading} → Known reading → {sheet sheet' : List ℕ} {answer : ℕ} → JudgeAnswers reading sheet answer sheet' → JudgeSays reading sheet answer sheet'

@@ -29,11 +29,11 @@ use Rattle.session.proofs.Bounds.{accepted-length, AnswerWithin, feed-within}
 use Rattle.session.proofs.Laws.{feeds-are, begin-accepted, feeds-accepted, fed-since, feeding-is-judging, sheet-is-judging, excerpt-is}
 use Rattle.yauponroof.specs.Answer.{judgeAnswer, JudgeAnswers, projectionAnswer}
 use Rattle.yauponroof.specs.Session.{writingAnswer, BeginAnswers, FeedAnswers, CloseAnswers, SheetAnswers, ExcerptAnswers, FeedsAnswer, none, more}
-use Rattle.yauponroof.proofs.Laws.{Accepted, TurnedDown, small-accepted, refusal-turned-down, session-known, judges-one, answers-one, excerpt-untouched, JudgeSays, wrote, turned-down, judge-says, Fine, fine-refused, written-accepted, projection-turned-down, excerpt-fine}
+use Rattle.yauponroof.proofs.Laws.{AcceptedWith, TurnedDown, small-accepted, refusal-turned-down, session-known, judges-one, answers-one, excerpt-untouched, JudgeSays, wrote, turned-down, judge-says, Fine, fine-refused, written-accepted, projection-turned-down, excerpt-fine}
 
 -- What the number that begin answers says: three bytes were written and the session is open, or all is as it was.
 pub data BeginSays (stage used : ℕ) (buffer : List ℕ) (stage' used' : ℕ) (buffer' : List ℕ) (answer : ℕ) : Type 0 where
-  begins : Accepted answer headerLength → stage' ≡ openStage → used' ≡ headerLength → buffer' ≡ emptyLog ++ drop headerLength buffer → BeginSays stage used buffer stage' used' buffer' answer
+  begins : AcceptedWith answer headerLength → stage' ≡ openStage → used' ≡ headerLength → buffer' ≡ emptyLog ++ drop headerLength buffer → BeginSays stage used buffer stage' used' buffer' answer
   refuses : TurnedDown answer bufferTooShort 0 → stage' ≡ stage → used' ≡ used → buffer' ≡ buffer → BeginSays stage used buffer stage' used' buffer' answer
 
 pub begin-says : {stage used stage' used' answer : ℕ} {buffer buffer' : List ℕ} → BeginAnswers stage used buffer stage' used' buffer' answer → BeginSays stage used buffer stage' used' buffer' answer
@@ -47,7 +47,7 @@ begin-says {stage} {used} {stage'} {used'} {answer} {buffer} {buffer'} a = go (l
 
 -- What the number that feed answers says: the record was put behind the used bytes and is counted, or the feed was refused, and all is as it was.
 pub data FeedSays (stage used : ℕ) (buffer bytes : List ℕ) (stage' used' : ℕ) (buffer' : List ℕ) (answer : ℕ) : Type 0 where
-  takes : feedAnswer stage used buffer bytes ≡ session.Accepted (length bytes) → Accepted answer (length bytes) → stage' ≡ stage → used' ≡ used + length bytes
+  takes : feedAnswer stage used buffer bytes ≡ session.Accepted (length bytes) → AcceptedWith answer (length bytes) → stage' ≡ stage → used' ≡ used + length bytes
       → buffer' ≡ put used bytes (withCount (countField buffer + 1) buffer) → FeedSays stage used buffer bytes stage' used' buffer' answer
   refuses : {number index : ℕ} → feedAnswer stage used buffer bytes ≡ session.Refused number index → TurnedDown answer number index → stage' ≡ stage → used' ≡ used → buffer' ≡ buffer
       → FeedSays stage used buffer bytes stage' used' buffer' answer
@@ -64,7 +64,7 @@ feed-says {stage} {used} {stage'} {used'} {answer} {buffer} {bytes} {buffer'} a 
 
 -- What the number that close answers says: the sheet was written and the session is closed, or all is as it was.
 pub data CloseSays (stage used : ℕ) (buffer sheet : List ℕ) (stage' used' : ℕ) (sheet' : List ℕ) (answer : ℕ) : Type 0 where
-  closes : {verdict : Verdict} → Judge.Accepted verdict → Judges (sessionReading openStage stage used buffer) sheet verdict sheet' → Accepted answer (sheetBytes verdict) → stage' ≡ closedStage → used' ≡ used
+  closes : {verdict : Verdict} → Judge.Accepted verdict → Judges (sessionReading openStage stage used buffer) sheet verdict sheet' → AcceptedWith answer (sheetBytes verdict) → stage' ≡ closedStage → used' ≡ used
       → CloseSays stage used buffer sheet stage' used' sheet' answer
   refuses : {number index : ℕ} → Judges (sessionReading openStage stage used buffer) sheet (judge.Refused number index) sheet' → TurnedDown answer number index → stage' ≡ stage → used' ≡ used → sheet' ≡ sheet
       → CloseSays stage used buffer sheet stage' used' sheet' answer
@@ -86,7 +86,7 @@ close-says {stage} {used} {stage'} {used'} {answer} {buffer} {sheet} {sheet'} a 
 
 -- What the number that the excerpt of a session answers says: so many bytes were written, or the call was refused and the buffer is as it was.
 pub data ExcerptSays (stage used : ℕ) (buffer out : List ℕ) (answer : ℕ) (out' : List ℕ) : Type 0 where
-  writes : {n : ℕ} → excerptAnswer (sessionReading closedStage stage used buffer) out ≡ projection.Written n → Accepted answer n → out' ≡ excerptLeaves (sessionReading closedStage stage used buffer) out
+  writes : {n : ℕ} → excerptAnswer (sessionReading closedStage stage used buffer) out ≡ projection.Written n → AcceptedWith answer n → out' ≡ excerptLeaves (sessionReading closedStage stage used buffer) out
       → ExcerptSays stage used buffer out answer out'
   refuses : {number index : ℕ} → excerptAnswer (sessionReading closedStage stage used buffer) out ≡ projection.Refused number index → TurnedDown answer number index → out' ≡ out → ExcerptSays stage used buffer out answer out'
 

@@ -9,7 +9,7 @@ use projection::write::Projected;
 const REFUSAL_UNIT: u64 = 4294967296;
 
 // A refusal as an answer.
-pub fn refuse(number: u32, index: usize) -> u64
+pub(crate) fn refuse(number: u32, index: usize) -> u64
     requires { ⌜ index < refusalUnit ⌝ }
     ensures { λ r. ⌜ r ≡ refusal number index ⌝ }
 {
@@ -20,7 +20,7 @@ pub fn refuse(number: u32, index: usize) -> u64
 const SHEET_HEADER: usize = 4;
 
 // The verdict of judging as an answer.
-pub fn judged(v: Verdict) -> u64
+pub(crate) fn judged(v: Verdict) -> u64
     requires { ⌜ Modest v ⌝ }
     ensures { λ r. ⌜ r ≡ judgeAnswer v ⌝ }
 {
@@ -32,7 +32,7 @@ pub fn judged(v: Verdict) -> u64
 }
 
 // A log that was written, or a refusal, as an answer.
-pub fn projected(p: Projected) -> u64
+pub(crate) fn projected(p: Projected) -> u64
     requires { ⌜ indexOf p < refusalUnit ⌝ }
     ensures { λ r. ⌜ r ≡ projectionAnswer p ⌝ }
 {

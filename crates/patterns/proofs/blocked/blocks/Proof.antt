@@ -6,7 +6,7 @@ use native.Mathlib.Omega.{arith}
 use borrow.Author.Needs.{needs}
 use Rattle.matching.specs.Matching.{partnerAt}
 use Rattle.matching.proofs.Matching.{partner-within}
-use Rattle.patterns.proofs.Blocking.{told-blocks}
+use Rattle.patterns.proofs.Blocking.{decided-blocks}
 
 mul-at : tie.Need-mul-at
 mul-at c = search needs
@@ -87,7 +87,7 @@ element-copy-out-result-2 c = search needs
 returns-4 : tie.Need-returns-4
 returns-4 c =
     let a = c .before .before .before .before .before .before .before .before .before .args in
-    told-blocks (a .table .now) (a .partner .now) (a .reach .now) (a .a) (a .b) (c .before .before .before .before .before .before .before .if1 .left) (c .before .before .before .before .before .if2 .left) (c .before .before .if3 .left)
+    decided-blocks (a .table .now) (a .partner .now) (a .reach .now) (a .a) (a .b) (c .before .before .before .before .before .before .before .if1 .left) (c .before .before .before .before .before .if2 .left) (c .before .before .if3 .left)
 
 pub blocks-spec : {M : Type 1} → statement M
 blocks-spec =

@@ -3,7 +3,7 @@ use Rattle.patterns.proofs.blocked.shows_blocking.Statement.{statement}
 use Rattle.patterns.proofs.blocked.shows_blocking.Tie as tie
 use mathlib.Core.Path.{sym, _∙_}
 use borrow.Author.Needs.{needs}
-use Rattle.patterns.proofs.Blocking.{told-blocking}
+use Rattle.patterns.proofs.Blocking.{decided-blocking}
 
 mul-if1 : tie.Need-mul-if1
 mul-if1 c = search needs
@@ -30,7 +30,7 @@ blocked-by-requires : tie.Need-blocked-by-requires
 blocked-by-requires c κs = search needs
 
 returns-3 : tie.Need-returns-3
-returns-3 c = told-blocking _ _ _ _ _ _ _ (c .before .before .before .if1 .left) (sym (c .before .before .pattern-of .ensures) ∙ c .before .if2 .left) (c .blocked-by .ensures)
+returns-3 c = decided-blocking _ _ _ _ _ _ _ (c .before .before .before .if1 .left) (sym (c .before .before .pattern-of .ensures) ∙ c .before .if2 .left) (c .blocked-by .ensures)
 
 pub shows-blocking-spec : {M : Type 1} → statement M
 shows-blocking-spec =

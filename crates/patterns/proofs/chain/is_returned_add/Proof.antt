@@ -1,6 +1,6 @@
 -- `is_returned_add` meets its contract.
 use Rattle.history.specs.Table.{tabled}
-use Rattle.matching.proofs.Telling.{told-less}
+use Rattle.matching.proofs.Tests.{decided-less}
 use Rattle.patterns.specs.Chains.{ReturnedAdd}
 use borrow.Author.Needs.{needs}
 use Rattle.patterns.proofs.chain.is_returned_add.Statement.{statement}
@@ -34,7 +34,7 @@ cast-result : tie.Need-cast-result
 cast-result c = search needs
 
 returns-2 : tie.Need-returns-2
-returns-2 c = told-less {P = ReturnedAdd (tabled (c .before .before .before .args .count) (c .before .before .before .args .end) (c .before .before .before .args .table .now)) (c .before .before .before .args .a)} _ _ (λ l. record { adds = c .before .if1 .left; returned = l }) (λ x. x .returned)
+returns-2 c = decided-less {P = ReturnedAdd (tabled (c .before .before .before .args .count) (c .before .before .before .args .end) (c .before .before .before .args .table .now)) (c .before .before .before .args .a)} _ _ (λ l. record { adds = c .before .if1 .left; returned = l }) (λ x. x .returned)
 
 pub is-returned-add-spec : {M : Type 1} → statement M
 is-returned-add-spec =

@@ -1,5 +1,5 @@
 -- `earliest_remove` meets its contract. The loop's invariant: what the codes from i on say is what all of them say.
-use Rattle.reader.proofs.Lists.{earliest-hit, earliest-miss, earliest-none}
+use Rattle.reader.proofs.Codes.{earliest-hit, earliest-miss, earliest-none}
 use Rattle.reader.specs.Tables.{earliestCode}
 use lib.ListN.{take, drop}
 use mathlib.Core.Path.{_≡_, refl, sym, ap, _∙_}

@@ -1,5 +1,5 @@
 -- `end_call` meets its contract: the entry that `find` found is taken out of both tables.
-use Rattle.reader.specs.Tables.{without}
+use Rattle.table.specs.Table.{without}
 use lib.ListN.{take}
 use Prim.Native.Nat.{ℕ}
 use mathlib.Core.Path.{refl, ap, _∙_}

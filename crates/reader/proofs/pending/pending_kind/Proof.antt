@@ -1,5 +1,5 @@
 -- `pending_kind` meets its contract: `find` found the client, or it is not there.
-use Rattle.reader.proofs.Lists.{kind-hit, kind-none}
+use Rattle.reader.proofs.Codes.{kind-hit, kind-none}
 use native.Mathlib.Omega.{arith}
 use borrow.Author.Needs.{needs}
 use Rattle.reader.proofs.pending.pending_kind.Statement.{statement}

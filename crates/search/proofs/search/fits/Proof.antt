@@ -3,7 +3,7 @@ use native.Mathlib.Omega.{arith}
 use mathlib.Core.Path.{_≡_}
 use Rattle.history.specs.History.{emptyRemove}
 use Rattle.history.specs.Table.{tabled, kindAt}
-use Rattle.matching.proofs.Telling.{told-less, told-equal}
+use Rattle.matching.proofs.Tests.{decided-less, decided-equal}
 use Rattle.search.specs.Searching.{Fit, adds, removes, empties}
 use Rattle.search.proofs.Fitting.{front-known, fit-add, fit-remove, fit-empty}
 use borrow.Author.Needs.{needs}
@@ -62,13 +62,13 @@ element-copy-out-result-3 : tie.Need-element-copy-out-result-3
 element-copy-out-result-3 c = search needs
 
 returns-2 : tie.Need-returns-2
-returns-2 c = told-less {P = Fit (tabled (c .before .before .before .args .count) (c .before .before .before .args .end) (c .before .before .before .args .table .now)) (c .before .before .before .args .reach .now) (c .before .before .before .args .queue .now) (c .before .before .before .args .s) (c .before .before .before .args .cap) (c .before .before .before .args .o)} _ _ (adds (c .before .match .keys1)) (λ fit. fit-add fit (c .before .match .keys1))
+returns-2 c = decided-less {P = Fit (tabled (c .before .before .before .args .count) (c .before .before .before .args .end) (c .before .before .before .args .table .now)) (c .before .before .before .args .reach .now) (c .before .before .before .args .queue .now) (c .before .before .before .args .s) (c .before .before .before .args .cap) (c .before .before .before .args .o)} _ _ (adds (c .before .match .keys1)) (λ fit. fit-add fit (c .before .match .keys1))
 
 returns-3 : tie.Need-returns-3
-returns-3 c = told-equal {P = Fit (tabled (c .before .before .before .before .before .before .before .args .count) (c .before .before .before .before .before .before .before .args .end) (c .before .before .before .before .before .before .before .args .table .now)) (c .before .before .before .before .before .before .before .args .reach .now) (c .before .before .before .before .before .before .before .args .queue .now) (c .before .before .before .before .before .before .before .args .s) (c .before .before .before .before .before .before .before .args .cap) (c .before .before .before .before .before .before .before .args .o)} _ _ (removes (c .before .before .before .before .before .match .keys2) (c .before .before .before .if1 .left)) (λ fit. fit-remove fit (c .before .before .before .before .before .match .keys2) .1)
+returns-3 c = decided-equal {P = Fit (tabled (c .before .before .before .before .before .before .before .args .count) (c .before .before .before .before .before .before .before .args .end) (c .before .before .before .before .before .before .before .args .table .now)) (c .before .before .before .before .before .before .before .args .reach .now) (c .before .before .before .before .before .before .before .args .queue .now) (c .before .before .before .before .before .before .before .args .s) (c .before .before .before .before .before .before .before .args .cap) (c .before .before .before .before .before .before .before .args .o)} _ _ (removes (c .before .before .before .before .before .match .keys2) (c .before .before .before .if1 .left)) (λ fit. fit-remove fit (c .before .before .before .before .before .match .keys2) .1)
 
 returns-4 : tie.Need-returns-4
-returns-4 c = let empty : kindAt (c .before .before .before .args .table .now) (c .before .before .before .args .o) ≡ emptyRemove = omega (arith, c .before .before .before .pre .0 .lawful .kinds _ (c .before .before .before .pre .2), c .before .match .rest .0 .1, c .before .match .rest .1) in told-equal {P = Fit (tabled (c .before .before .before .args .count) (c .before .before .before .args .end) (c .before .before .before .args .table .now)) (c .before .before .before .args .reach .now) (c .before .before .before .args .queue .now) (c .before .before .before .args .s) (c .before .before .before .args .cap) (c .before .before .before .args .o)} _ _ (empties empty) (λ fit. fit-empty fit empty)
+returns-4 c = let empty : kindAt (c .before .before .before .args .table .now) (c .before .before .before .args .o) ≡ emptyRemove = omega (arith, c .before .before .before .pre .0 .lawful .kinds _ (c .before .before .before .pre .2), c .before .match .rest .0 .1, c .before .match .rest .1) in decided-equal {P = Fit (tabled (c .before .before .before .args .count) (c .before .before .before .args .end) (c .before .before .before .args .table .now)) (c .before .before .before .args .reach .now) (c .before .before .before .args .queue .now) (c .before .before .before .args .s) (c .before .before .before .args .cap) (c .before .before .before .args .o)} _ _ (empties empty) (λ fit. fit-empty fit empty)
 
 pub fits-spec : {M : Type 1} → statement M
 fits-spec =

@@ -1,6 +1,6 @@
 -- `is_due` meets its contract.
 use mathlib.Core.Logic.{inl}
-use Rattle.matching.proofs.Telling.{told-less}
+use Rattle.matching.proofs.Tests.{decided-less}
 use Rattle.search.proofs.Due.{reach-due, due-reach}
 use borrow.Author.Needs.{needs}
 use Rattle.search.proofs.search.is_due.Statement.{statement}
@@ -34,7 +34,7 @@ cast-result : tie.Need-cast-result
 cast-result c = search needs
 
 returns-2 : tie.Need-returns-2
-returns-2 c = told-less _ _ (reach-due (c .before .before .before .pre .0) (c .before .before .before .pre .1) _ (c .before .before .before .pre .2) (c .before .if1 .left)) (due-reach (c .before .before .before .pre .0) (c .before .before .before .pre .1) _ (c .before .before .before .pre .2) (c .before .if1 .left))
+returns-2 c = decided-less _ _ (reach-due (c .before .before .before .pre .0) (c .before .before .before .pre .1) _ (c .before .before .before .pre .2) (c .before .if1 .left)) (due-reach (c .before .before .before .pre .0) (c .before .before .before .pre .1) _ (c .before .before .before .pre .2) (c .before .if1 .left))
 
 pub is-due-spec : {M : Type 1} → statement M
 is-due-spec =

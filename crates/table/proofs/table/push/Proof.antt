@@ -4,8 +4,8 @@ use lib.ListN.{length-set}
 use native.Mathlib.Numerals.{add-one}
 use native.Mathlib.Omega.{arith}
 use borrow.Author.Needs.{needs}
-use Rattle.reader.proofs.table.push.Statement.{statement}
-use Rattle.reader.proofs.table.push.Tie as tie
+use Rattle.table.proofs.table.push.Statement.{statement}
+use Rattle.table.proofs.table.push.Tie as tie
 
 mul-table : tie.Need-mul-table
 mul-table c = search needs

@@ -1,14 +1,14 @@
 -- `is_in` meets its contract. The loop's invariant: whether x was found is whether it is among the first i numbers.
-use Rattle.projection.proofs.keep.is_in.Statement.{statement}
-use Rattle.projection.proofs.keep.is_in.Tie as tie
+use Rattle.table.proofs.table.is_in.Statement.{statement}
+use Rattle.table.proofs.table.is_in.Tie as tie
 use Prim.Native.Nat.{_-_, _≤_}
 use native.Mathlib.Omega.{arith}
 use mathlib.Core.Path.{_≡_, refl, ap, _∙_}
 use mathlib.Core.Logic.{⊎-elim}
 use lib.ListN.{length, take}
 use lib.Seq.{take-all}
-use Rattle.reader.specs.Log.{isIn}
-use Rattle.reader.proofs.Lists.{isIn-hit, isIn-miss}
+use Rattle.table.specs.Table.{isIn}
+use Rattle.table.proofs.Lists.{isIn-hit, isIn-miss}
 
 abbrev Inv-loop : tie.InvT-loop
 Inv-loop x list found₀ i₀ found i = (i ≤ length list) × (found ≡ isIn x (take i list))

@@ -1,5 +1,5 @@
--- Laws of the lists that the tables hold.
-use Prim.Native.Nat.{ℕ, zero, suc, _+_, _-_, _/_, _%_, _≤_, _<_}
+-- Laws of the lists that tables hold.
+use Prim.Native.Nat.{ℕ, zero, suc, _+_, _-_, _≤_, _<_}
 use native.Mathlib.Omega.{arith}
 use native.Mathlib.Numerals.{add-one}
 use mathlib.Core.Path.{_≡_, refl, sym, ap, _∙_}
@@ -8,10 +8,9 @@ use mathlib.Core.List.{List, [], _∷_, _++_, map, map-append, append-assoc, app
 use lib.ListN.{length, getD, set, take, drop, drop-of-length-le, length-append, length-take, length-drop}
 use lib.Seq.{take-suc, take-suc-set, take-set-lt, drop-cons, drop-set-lt, getD-take, length-take-le}
 use lib.Dec.{eqb}
-use borrow.Author.Tests.{lt-ltb, le-ltb, eq-eqb, ne-eqb}
+use borrow.Author.Tests.{eq-eqb, ne-eqb}
 use Rattle.record.specs.Choice.{if_then_else_}
-use Rattle.reader.specs.Log.{isIn}
-use Rattle.reader.specs.Tables.{position, without, kindOfFound, earliestCode}
+use Rattle.table.specs.Table.{isIn, position, without}
 
 -- a number is in two lists, one behind the other, if it is in one of them
 pub isIn-append : (v : ℕ) (xs ys : List ℕ) → isIn v (xs ++ ys) ≡ (if isIn v xs then true else isIn v ys)
@@ -47,14 +46,14 @@ isIn-miss v xs i h n = rw (add-one, take-suc xs i 0 h, isIn-append v (take i xs)
 
 -- the entries in use, the first `count` of a table
 module _ (ys : List ℕ) (count : ℕ) (long : count ≤ length ys) where
-  used : length (take count ys) ≡ count
+  pub used : length (take count ys) ≡ count
   used = length-take-le count ys long
 
   -- those from i on begin with the entry at i
-  from : (i : ℕ) → i < count → drop i (take count ys) ≡ getD ys i 0 ∷ drop (i + 1) (take count ys)
+  pub from : (i : ℕ) → i < count → drop i (take count ys) ≡ getD ys i 0 ∷ drop (i + 1) (take count ys)
   from i h = rw (drop-cons (take count ys) i 0 (omega (arith, used)), getD-take count ys i 0 h, add-one)
 
-  past-all : drop count (take count ys) ≡ []
+  pub past-all : drop count (take count ys) ≡ []
   past-all = drop-of-length-le (take count ys) {i = count} (omega (arith, used))
 
   pub position-hit : (x i : ℕ) → i < count → getD ys i 0 ≡ x → position x (drop i (take count ys)) ≡ 0
@@ -68,26 +67,6 @@ module _ (ys : List ℕ) (count : ℕ) (long : count ≤ length ys) where
   pub position-none : (x : ℕ) → position x (drop count (take count ys)) ≡ 0
   unfolding position
   position-none x = rw past-all
-
-  pub earliest-hit : (none i : ℕ) → i < count → getD ys i 0 % 4 ≡ 2 → earliestCode (drop i (take count ys)) none ≡ getD ys i 0 / 4
-  unfolding earliestCode
-  earliest-hit none i h e = rw (from i h, eq-eqb _ _ e)
-
-  pub earliest-miss : (none i : ℕ) → i < count → (getD ys i 0 % 4 ≡ 2 → ⊥) → earliestCode (drop i (take count ys)) none ≡ earliestCode (drop (i + 1) (take count ys)) none
-  unfolding earliestCode
-  earliest-miss none i h n = rw (from i h, ne-eqb _ _ n)
-
-  pub earliest-none : (none : ℕ) → earliestCode (drop count (take count ys)) none ≡ none
-  unfolding earliestCode
-  earliest-none none = rw past-all
-
--- the kind of the client found at k, or of none
-module _ (client count : ℕ) (clients codes : List ℕ) (long : count ≤ length clients) (k : ℕ) (found : k ≡ position client (take count clients)) where
-  pub kind-hit : k < count → getD codes k 0 % 4 ≡ kindOfFound client (take count clients) (take count codes)
-  kind-hit h = rw (used clients count long, ← found, lt-ltb k count h, getD-take count codes k 0 h)
-
-  pub kind-none : count ≤ k → 0 ≡ kindOfFound client (take count clients) (take count codes)
-  kind-none h = rw (used clients count long, ← found, le-ltb k count h)
 
 -- an entry moved up into the gap at i: the gap is one further on
 pub shift-step : (t : List ℕ) (count i : ℕ) → i + 1 < count → count ≤ length t

@@ -1,12 +1,12 @@
 -- `find` meets its contract. The loop's invariant: the place of x among the entries from i on, behind i others, is its place.
-use Rattle.reader.proofs.Lists.{position-hit, position-miss, position-none}
-use Rattle.reader.specs.Tables.{position}
+use Rattle.table.proofs.Lists.{position-hit, position-miss, position-none}
+use Rattle.table.specs.Table.{position}
 use lib.ListN.{take, drop}
 use mathlib.Core.Path.{_≡_, ap}
 use native.Mathlib.Omega.{arith}
 use Prim.Native.Nat.{ℕ, _+_, _-_, _≤_}
-use Rattle.reader.proofs.table.find.Statement.{statement}
-use Rattle.reader.proofs.table.find.Tie as tie
+use Rattle.table.proofs.table.find.Statement.{statement}
+use Rattle.table.proofs.table.find.Tie as tie
 
 abbrev Inv-loop : tie.InvT-loop
 Inv-loop table count x i₀ i = (i ≤ count) × (i + position x (drop i (take count table)) ≡ position x (take count table))

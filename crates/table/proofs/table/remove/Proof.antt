@@ -1,18 +1,17 @@
 -- `remove` meets its contract. The loop's invariant: the entries before i and those behind it are what is to be left.
 use lib.Seq.{take-take}
-use Rattle.reader.proofs.Lists.{shift-step, shift-end}
-use Rattle.reader.specs.Tables.{without}
-use Rattle.reader.specs.Log.{maxRecords}
+use Rattle.table.proofs.Lists.{shift-step, shift-end}
+use Rattle.table.specs.Table.{tableSize, without}
 use lib.ListN.{length, take, drop, length-set}
 use mathlib.Core.List.{_++_}
 use mathlib.Core.Path.{_≡_, refl, sym, _∙_}
 use native.Mathlib.Omega.{arith}
 use Prim.Native.Nat.{suc, _-_, _≤_, _<_}
-use Rattle.reader.proofs.table.remove.Statement.{statement}
-use Rattle.reader.proofs.table.remove.Tie as tie
+use Rattle.table.proofs.table.remove.Statement.{statement}
+use Rattle.table.proofs.table.remove.Tie as tie
 
 abbrev Inv-loop : tie.InvT-loop
-Inv-loop table₀ count index i₀ table i = (length table ≡ maxRecords) × (index ≤ i) × (i < count) × (take i table ++ drop (suc i) (take count table) ≡ without index (take count table₀))
+Inv-loop table₀ count index i₀ table i = (length table ≡ tableSize) × (index ≤ i) × (i < count) × (take i table ++ drop (suc i) (take count table) ≡ without index (take count table₀))
 
 abbrev μ-loop : tie.MeasureT-loop
 μ-loop table₀ count index i₀ table i = count - i

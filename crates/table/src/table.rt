@@ -1,0 +1,70 @@
+// Tables of which the first `count` entries are in use: searches, and an entry put in at the end or taken out. What they hold is
+// said by lists, in specs/Table.antt.
+ghost use mathlib.Core.Path.{_≡_};
+ghost use Prim.Native.Nat.{_-_, _<_};
+ghost use lib.ListN.{length, take};
+ghost use Rattle.table.specs.Table.{tableSize, isIn, position, without, Fits, Pushed};
+
+// As many entries as a log may have records.
+pub const SIZE: usize = 1024;
+
+pub type Table = [u32; SIZE];
+
+// Whether x is in a list. The loop runs to the end, so that it is done several entries at a time.
+pub fn is_in(x: u32, list: &[u32]) -> bool
+    ensures { λ r. ⌜ r ≡ isIn x (now (list .entry)) ⌝ }
+{
+    let mut found = false;
+    let mut i = 0;
+    while i < list.len() {
+        if list[i] == x {
+            found = true;
+        }
+        i += 1;
+    }
+    found
+}
+
+// Whether x is in the table.
+pub fn contains(table: &Table, count: usize, x: u32) -> bool
+    requires { ⌜ Fits count (now table) ⌝ }
+    ensures { λ r. ⌜ r ≡ isIn x (take count (now (table .entry))) ⌝ }
+{
+    let entries = &table[..];
+    is_in(x, &entries[..count])
+}
+
+// The index of the first x, or `count` where there is none.
+pub fn find(table: &Table, count: usize, x: u32) -> usize
+    requires { ⌜ Fits count (now table) ⌝ }
+    ensures { λ r. ⌜ r ≡ position x (take count (now (table .entry))) ⌝ }
+{
+    let mut i = 0;
+    while i < count {
+        if table[i] == x {
+            return i;
+        }
+        i += 1;
+    }
+    i
+}
+
+// Puts x behind the entries in use.
+pub fn push(table: &mut Table, count: usize, x: u32)
+    requires { ⌜ (count < tableSize) × (length (now table) ≡ tableSize) ⌝ }
+    ensures { λ _. ⌜ Pushed count x (now (table .entry)) (now (table .exit)) ⌝ }
+{
+    table[count] = x;
+}
+
+// Takes out the entry at an index, and moves those behind it up.
+pub fn remove(table: &mut Table, count: usize, index: usize)
+    requires { ⌜ (index < count) × Fits count (now table) ⌝ }
+    ensures { λ _. ⌜ (take (count - 1) (now (table .exit)) ≡ without index (take count (now (table .entry)))) × (length (now (table .exit)) ≡ tableSize) ⌝ }
+{
+    let mut i = index;
+    while i < count - 1 {
+        table[i] = table[i + 1];
+        i += 1;
+    }
+}
