@@ -127,7 +127,7 @@ mod tests {
     use super::{Cache, Kept, NONE};
     use crate::placed::Placed;
     use crate::queue::Queue;
-    use yauponroof_tests::history::Action;
+    use yauponroof_tests::model::history::Action;
 
     const OPERATIONS: usize = 130;
 

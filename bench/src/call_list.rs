@@ -1,7 +1,7 @@
 //! The calls and returns of a log in a doubly linked list. The two entries of an operation that has
 //! been placed are lifted out, and put back when it is taken back, in constant time each.
 
-use yauponroof_tests::history::Operation;
+use yauponroof_tests::model::history::Operation;
 
 /// What an entry of the list stands for.
 #[derive(Clone, Copy)]

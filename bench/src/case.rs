@@ -1,10 +1,11 @@
 //! A log of the grid, the calls that are measured on it, and what they have to answer.
 
-use yauponroof_tests::build;
-use yauponroof_tests::history::{operations, Operation};
-use yauponroof_tests::reader::LOG_MAX;
-use yauponroof_tests::sheet::{sheet, ORDER, SHEET_MAX};
-use yauponroof_tests::{judge, replay, Answer, YES};
+use yauponroof_tests::library::{judge, replay};
+use yauponroof_tests::model::history::{operations, Operation};
+use yauponroof_tests::model::reader::LOG_MAX;
+use yauponroof_tests::model::sheet::{sheet, ORDER, SHEET_MAX};
+use yauponroof_tests::model::writer;
+use yauponroof_tests::{Answer, YES};
 
 use crate::logs::Sample;
 use crate::measured::{
@@ -65,7 +66,7 @@ impl Case {
     /// The log of the sample, which must be judged as its kind says.
     pub fn new(sample: Sample) -> Case {
         let records = sample.log();
-        let log = build::log(&records);
+        let log = writer::log(&records);
         let case = Case {
             sample,
             operations: operations(&records),

@@ -1,10 +1,10 @@
 //! The logs that are measured: runs of a simulated queue, sound or with one fault put in.
 
-use yauponroof_tests::history::operations;
-use yauponroof_tests::put_in::{with_empty_removes, with_run};
-use yauponroof_tests::reader::Record;
-use yauponroof_tests::simulation::{simulate_load, Clients, Load};
-use yauponroof_tests::violations::first_violation;
+use yauponroof_tests::logs::insertion::{with_empty_removes, with_run};
+use yauponroof_tests::logs::simulation::{simulate_load, Clients, Load};
+use yauponroof_tests::model::history::operations;
+use yauponroof_tests::model::record::Record;
+use yauponroof_tests::model::violations::first_violation;
 
 /// What is wrong with a log.
 #[derive(Clone, Copy, Debug, PartialEq, Eq)]
@@ -127,8 +127,8 @@ fn is_false_empty(records: &[Record]) -> bool {
 #[cfg(test)]
 mod tests {
     use super::{suffice, Sample, CLIENTS, KINDS, RECORDS};
-    use yauponroof_tests::history::operations;
-    use yauponroof_tests::violations::first_violation;
+    use yauponroof_tests::model::history::operations;
+    use yauponroof_tests::model::violations::first_violation;
 
     /// Held against the tests' table of patterns, up to 256 records.
     #[test]

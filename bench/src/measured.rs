@@ -3,8 +3,9 @@
 
 use std::hint::black_box;
 
-use yauponroof_tests::history::Operation;
-use yauponroof_tests::{begin, check, close, feed, judge, replay, Answer, Session};
+use yauponroof_tests::library::{begin, check, close, feed, judge, replay};
+use yauponroof_tests::model::history::Operation;
+use yauponroof_tests::{Answer, Session};
 
 use crate::search::{search, Limit, Outcome};
 

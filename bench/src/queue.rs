@@ -1,8 +1,8 @@
 //! A queue that takes back what was done to it, and whose hash costs nothing to keep: running an
 //! operation, taking it back and hashing the contents take constant time each.
 
-use yauponroof_tests::history::Action;
-use yauponroof_tests::reader::Removed;
+use yauponroof_tests::model::history::Action;
+use yauponroof_tests::model::record::Removed;
 
 /// The values that were added, of which the first `removed` are gone again.
 pub struct Queue {
@@ -82,8 +82,8 @@ impl Queue {
 #[cfg(test)]
 mod tests {
     use super::Queue;
-    use yauponroof_tests::history::Action::{Add, Remove};
-    use yauponroof_tests::reader::Removed::{Empty, Value};
+    use yauponroof_tests::model::history::Action::{Add, Remove};
+    use yauponroof_tests::model::record::Removed::{Empty, Value};
 
     #[test]
     fn it_runs_operations_and_takes_them_back() {

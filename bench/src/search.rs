@@ -6,7 +6,7 @@
 
 use std::time::{Duration, Instant};
 
-use yauponroof_tests::history::Operation;
+use yauponroof_tests::model::history::Operation;
 
 use crate::cache::Cache;
 use crate::call_list::{CallList, Event};
@@ -124,15 +124,17 @@ impl<'a> Search<'a> {
 mod tests {
     use std::time::Duration;
 
-    use yauponroof_tests::changed_logs::near_outcomes_exchanged;
-    use yauponroof_tests::enumerate::{every_log, random_log, random_log_of_paired_operations};
-    use yauponroof_tests::history::operations;
-    use yauponroof_tests::linearization::is_linearization;
+    use yauponroof_tests::logs::changes::near_outcomes_exchanged;
+    use yauponroof_tests::logs::enumerate::{
+        every_log, random_log, random_log_of_paired_operations,
+    };
+    use yauponroof_tests::logs::samples::calls_then_returns;
+    use yauponroof_tests::logs::simulation::{simulate_run, Clients};
+    use yauponroof_tests::model::history::operations;
+    use yauponroof_tests::model::linearization::is_linearization;
+    use yauponroof_tests::model::record::Record;
+    use yauponroof_tests::model::search::has_linearization;
     use yauponroof_tests::random::Random;
-    use yauponroof_tests::reader::Record;
-    use yauponroof_tests::samples::calls_then_returns;
-    use yauponroof_tests::search::has_linearization;
-    use yauponroof_tests::simulation::{simulate_run, Clients};
 
     use super::{search, Limit, Outcome};
 

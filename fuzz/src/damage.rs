@@ -1,7 +1,7 @@
 //! Damage to a log that was readable: to one of its records, and to two of its bytes.
 
-use yauponroof_tests::build::log;
-use yauponroof_tests::reader::Record;
+use yauponroof_tests::model::record::Record;
+use yauponroof_tests::model::writer::log;
 
 use crate::choices::Choices;
 

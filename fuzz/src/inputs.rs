@@ -1,8 +1,8 @@
 //! What inputs are made into.
 
-use yauponroof_tests::build::log;
-use yauponroof_tests::fenced::Place;
-use yauponroof_tests::reader::operations;
+use yauponroof_tests::library::fenced::Place;
+use yauponroof_tests::model::reader::operation_count;
+use yauponroof_tests::model::writer::log;
 
 use crate::choices::Choices;
 use crate::damage::Damage;
@@ -61,7 +61,7 @@ pub fn compare(input: &[u8], reached: &mut Reached) {
             let changes = Changes::new(&mut how);
             let records = written_records(Writer::new(&mut how), what);
             let log = log(&records);
-            let sheet = changes.sheet_for(&log, operations(&records) as u16);
+            let sheet = changes.sheet_for(&log, operation_count(&records) as u16);
             compare_replay(&log, &sheet, place, reached);
         }
         Kind::Script => Player::new(how, reached).play(what),

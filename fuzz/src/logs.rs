@@ -1,18 +1,20 @@
 //! All entries that take a log, on one log: held against the tests' own reader, their table of
 //! patterns, their search for an order where the log is short, their excerpts and narrowings.
 
-use yauponroof_tests::archive::{excerpt_made, judged};
-use yauponroof_tests::compare::{show, Tally};
-use yauponroof_tests::fenced::{Fenced, Place};
-use yauponroof_tests::guarded::written_twice;
-use yauponroof_tests::history::operations;
-use yauponroof_tests::lent_session::{answered, Outcome};
-use yauponroof_tests::narrowing::{compare_narrowing, narrowing_made};
-use yauponroof_tests::projection::values;
-use yauponroof_tests::reader::{self, Record};
-use yauponroof_tests::search::has_linearization;
-use yauponroof_tests::violations::first_violation;
-use yauponroof_tests::{excerpt, judge, narrow, refused, Answer};
+use yauponroof_tests::compare::narrowing::compare_narrowing;
+use yauponroof_tests::compare::reading::Tally;
+use yauponroof_tests::hex::show;
+use yauponroof_tests::library::fenced::{Fenced, Place};
+use yauponroof_tests::library::guarded::written_twice;
+use yauponroof_tests::library::outcomes::{excerpt_made, judged, narrowing_made};
+use yauponroof_tests::library::{excerpt, judge, narrow};
+use yauponroof_tests::model::history::operations;
+use yauponroof_tests::model::projection::values;
+use yauponroof_tests::model::reader;
+use yauponroof_tests::model::record::Record;
+use yauponroof_tests::model::search::has_linearization;
+use yauponroof_tests::model::violations::first_violation;
+use yauponroof_tests::{answered, refused, Answer, Outcome};
 
 use crate::choices::Choices;
 use crate::reached::{Of, Reached};

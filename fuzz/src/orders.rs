@@ -1,9 +1,9 @@
 //! Replay, on a log and a sheet: held against the tests' own test of orders.
 
-use yauponroof_tests::archive::judged;
-use yauponroof_tests::compare::Replays;
-use yauponroof_tests::fenced::{Fenced, Place};
-use yauponroof_tests::sheet::{order_on, sheet};
+use yauponroof_tests::compare::replay::Replays;
+use yauponroof_tests::library::fenced::{Fenced, Place};
+use yauponroof_tests::library::outcomes::judged;
+use yauponroof_tests::model::sheet::{order_on, sheet};
 
 use crate::choices::Choices;
 use crate::damage::damage_byte;

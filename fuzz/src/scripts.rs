@@ -1,12 +1,13 @@
 //! Scripts of sessions: calls that are mostly those of a sound session, with tampering before some
 //! of them. After every call all is held against the tests' own session.
 
-use yauponroof_tests::build::record_bytes;
-use yauponroof_tests::reader::{Record, HEADER};
-use yauponroof_tests::script::{play, Step};
-use yauponroof_tests::session::{State, CLOSED, OPEN};
-use yauponroof_tests::sessions::{Compared, Entry};
-use yauponroof_tests::sheet;
+use yauponroof_tests::compare::script::{play, Step};
+use yauponroof_tests::compare::session::{Compared, Entry};
+use yauponroof_tests::model::reader::HEADER;
+use yauponroof_tests::model::record::Record;
+use yauponroof_tests::model::session::{State, CLOSED, OPEN};
+use yauponroof_tests::model::sheet;
+use yauponroof_tests::model::writer::record_bytes;
 
 use crate::choices::Choices;
 use crate::reached::{Of, Reached};

@@ -4,15 +4,16 @@
 use std::path::Path;
 use std::{fs, io};
 
-use yauponroof_tests::build::{hex, log};
-use yauponroof_tests::notation::run;
-use yauponroof_tests::put_in::with_empty_removes;
+use yauponroof_tests::hex::hex;
+use yauponroof_tests::logs::chain::{chain, Last};
+use yauponroof_tests::logs::insertion::with_empty_removes;
+use yauponroof_tests::logs::notation::run;
+use yauponroof_tests::logs::samples::{refused_logs, Verdict, PROGRAM_EXAMPLE, RUNS};
+use yauponroof_tests::logs::simulation::{simulate, Clients};
+use yauponroof_tests::model::record::{Event, Record, Removed};
+use yauponroof_tests::model::sheet::sheet;
+use yauponroof_tests::model::writer::log;
 use yauponroof_tests::random::Random;
-use yauponroof_tests::reader::{Event, Record, Removed};
-use yauponroof_tests::relay::{relay, Last};
-use yauponroof_tests::samples::{refused_logs, Verdict, PROGRAM_EXAMPLE, RUNS};
-use yauponroof_tests::sheet::sheet;
-use yauponroof_tests::simulation::{simulate, Clients};
 
 use crate::choices::Choices;
 use crate::inputs::{Kind, HOW, KINDS};
@@ -70,8 +71,8 @@ fn written_samples() -> Vec<Vec<u8>> {
         (Last::Removed, 2),
     ];
     let chains = chains.map(|(last, broken)| {
-        let relay = relay(4, last, |value| value == broken).records;
-        with_empty_removes(&relay, &[(2, relay.len())])
+        let chain = chain(4, last, |value| value == broken).records;
+        with_empty_removes(&chain, &[(2, chain.len())])
     });
     let records = runs.chain(chains);
     records

@@ -1,8 +1,11 @@
 //! A writer of readable logs: a few clients, whose operations overlap. What a remove returns is
 //! mostly what a correct queue could give it, so that many logs have an order or nearly do.
 
-use yauponroof_tests::build::{call_add, call_remove, log, return_add, return_empty, return_value};
-use yauponroof_tests::reader::{self, Record};
+use yauponroof_tests::model::reader;
+use yauponroof_tests::model::record::{
+    call_add, call_remove, return_add, return_empty, return_value, Record,
+};
+use yauponroof_tests::model::writer::log;
 
 use crate::choices::Choices;
 

@@ -6,14 +6,16 @@
 use std::io::{stderr, Write};
 use std::path::{Path, PathBuf};
 
-use yauponroof_tests::build::hex;
-use yauponroof_tests::compare::{Replays, Tally};
-use yauponroof_tests::guarded::written_twice;
-use yauponroof_tests::reader::LOG_MAX;
-use yauponroof_tests::script::{play, Given, Step};
-use yauponroof_tests::sessions::{Compared, Entry};
-use yauponroof_tests::sheet::{order_on, sheet, ORDER};
-use yauponroof_tests::{excerpt, judge, narrow, refused, replay, Answer, NO, YES};
+use yauponroof_tests::compare::reading::Tally;
+use yauponroof_tests::compare::replay::Replays;
+use yauponroof_tests::compare::script::{play, Given, Step};
+use yauponroof_tests::compare::session::{Compared, Entry};
+use yauponroof_tests::hex::{digits, hex};
+use yauponroof_tests::library::guarded::written_twice;
+use yauponroof_tests::library::{excerpt, judge, narrow, replay};
+use yauponroof_tests::model::reader::LOG_MAX;
+use yauponroof_tests::model::sheet::{order_on, sheet, ORDER};
+use yauponroof_tests::{refused, Answer, Outcome, NO, YES};
 
 /// The program takes this many bytes of its input as the log.
 const PROGRAM_INPUT: usize = 12_292;
@@ -193,9 +195,6 @@ fn written_sheet(line: &Line) -> Option<(Vec<u8>, Answer)> {
     }
 }
 
-/// What an entry that writes gave: the bytes, or its refusal.
-type Outcome = Result<Vec<u8>, Answer>;
-
 /// What a line says an entry writes, and whether another order over the same operations is as good.
 fn outcome_told(answer: &[&str]) -> (Outcome, bool) {
     match answer {
@@ -347,14 +346,6 @@ fn lent_session(word: &str) -> Compared {
             session
         }
         _ => panic!("no buffer is lent by {word}"),
-    }
-}
-
-/// Bytes as the vectors tell them.
-fn digits(bytes: &[u8]) -> String {
-    match bytes {
-        [] => ".".to_string(),
-        _ => bytes.iter().map(|byte| format!("{byte:02x}")).collect(),
     }
 }
 

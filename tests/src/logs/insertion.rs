@@ -1,0 +1,103 @@
+//! Operations put into a log between its records: short runs in document 01's notation, and empty
+//! removes.
+
+use std::collections::HashSet;
+
+use crate::logs::clients::new_client;
+use crate::logs::notation::run;
+use crate::model::projection::values;
+use crate::model::record::{call_remove, return_empty, Record};
+
+/// Part of a run, and the place that it is put at: right before the record with that index, or at
+/// the end.
+pub type Part<'a> = (usize, &'a str);
+
+/// The records with a run put in, part by part; the places do not fall. Its clients are new ones,
+/// and so are its values: 0 becomes the least value that the log does not have, and so on.
+pub fn with_run(records: &[Record], parts: &[Part]) -> Vec<Record> {
+    let texts: Vec<&str> = parts.iter().map(|&(_, text)| text).collect();
+    let mut put_in = made_new(run(&texts.join(" ")), records).into_iter();
+    let mut all: Vec<Record> = Vec::new();
+    let mut from = 0;
+    for &(at, text) in parts {
+        all.extend(&records[from..at]);
+        let tick = all.last().map_or(0, |record| record.tick);
+        let part = put_in.by_ref().take(text.split_whitespace().count());
+        all.extend(part.map(|record| Record { tick, ..record }));
+        from = at;
+    }
+    all.extend(&records[from..]);
+    all
+}
+
+/// The run with clients and values that the records do not have.
+fn made_new(run: Vec<Record>, records: &[Record]) -> Vec<Record> {
+    let above = new_client(records);
+    let used: HashSet<u32> = values(records).into_iter().collect();
+    let new_value = |number: u32| {
+        let mut unused = (0..).filter(|value| !used.contains(value));
+        unused.nth(number as usize).expect("values enough")
+    };
+    let renamed = |record: &Record| Record {
+        client: above + record.client,
+        event: record.event.with_value(new_value),
+        ..*record
+    };
+    run.iter().map(renamed).collect()
+}
+
+/// Where an empty remove is put: called right before the record with the first index, and returned
+/// right before that with the second, or at the end.
+pub type Span = (usize, usize);
+
+/// The records with empty removes put in, each by a client of its own. Of those that are put at one
+/// place, the calls come first.
+pub fn with_empty_removes(records: &[Record], spans: &[Span]) -> Vec<Record> {
+    let clients = new_client(records)..;
+    let by: Vec<(u16, Span)> = clients.zip(spans.iter().copied()).collect();
+    let mut all: Vec<Record> = Vec::new();
+    for at in 0..=records.len() {
+        let tick = all.last().map_or(0, |record| record.tick);
+        let calls = by.iter().filter(|(_, span)| span.0 == at);
+        all.extend(calls.map(|&(client, _)| call_remove(client, tick)));
+        let returns = by.iter().filter(|(_, span)| span.1 == at);
+        all.extend(returns.map(|&(client, _)| return_empty(client, tick)));
+        all.extend(records.get(at));
+    }
+    all
+}
+
+#[cfg(test)]
+mod tests {
+    use super::{with_empty_removes, with_run};
+    use crate::model::record::{call_add, call_remove, return_add, return_empty, return_value};
+
+    #[test]
+    fn a_run_is_put_in_part_by_part() {
+        let records = [call_add(5, 10, 1), return_add(5, 20)];
+        let expected = [
+            call_add(7, 0, 0),
+            call_add(5, 10, 1),
+            return_add(7, 10),
+            call_remove(8, 10),
+            return_add(5, 20),
+            return_value(8, 20, 2),
+        ];
+        let parts = [(0, "A0("), (1, "A0) R("), (2, "R1)")];
+        assert_eq!(with_run(&records, &parts), expected);
+    }
+
+    #[test]
+    fn empty_removes_are_put_in_at_their_places() {
+        let records = [call_add(5, 10, 1), return_add(5, 20)];
+        let expected = [
+            call_remove(6, 0),
+            call_add(5, 10, 1),
+            call_remove(7, 10),
+            return_empty(7, 10),
+            return_add(5, 20),
+            return_empty(6, 20),
+        ];
+        assert_eq!(with_empty_removes(&records, &[(0, 2), (1, 1)]), expected);
+    }
+}

@@ -1,0 +1,18 @@
+//! The judge. With each log that has a pattern the excerpt is compared as well.
+
+mod bounds;
+mod buffers;
+mod chains;
+mod changed_logs;
+mod clients;
+mod document;
+mod empty_removes;
+mod every_log;
+mod faults;
+mod lent_buffers;
+mod random;
+mod refusals;
+mod simulated;
+mod threads;
+mod trades;
+mod values;

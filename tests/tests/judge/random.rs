@@ -1,0 +1,86 @@
+//! The judge and the excerpt on logs of up to 12 operations by chance, held against the table of
+//! patterns and the test of orders. That an order is told exactly where one exists is held against
+//! a search that knows nothing of patterns.
+
+use yauponroof_tests::compare::archive::Archives;
+use yauponroof_tests::logs::changes::{
+    a_call_later, a_return_sooner, an_outcome_changed, near_outcomes_exchanged,
+    neighbours_exchanged, outcomes_exchanged, values_added_exchanged, Change,
+};
+use yauponroof_tests::logs::enumerate::{random_log, random_log_of_paired_operations};
+use yauponroof_tests::logs::simulation::{simulate_load, Clients, Load};
+use yauponroof_tests::model::history::operations;
+use yauponroof_tests::model::record::{Event, Record};
+use yauponroof_tests::model::sheet::ORDER;
+use yauponroof_tests::random::Random;
+
+const MOST_OPERATIONS: usize = 12;
+
+fn compare(records: &[Record], archives: &mut Archives) {
+    assert!(operations(records).len() <= MOST_OPERATIONS);
+    archives.compare_with_search(records);
+}
+
+#[test]
+fn logs_by_chance() {
+    let mut random = Random::new(81);
+    let mut archives = Archives::new();
+    for _ in 0..40_000 {
+        let least = random.below(18);
+        let records = random_log(least, &mut random);
+        if operations(&records).len() <= MOST_OPERATIONS {
+            compare(&records, &mut archives);
+        }
+    }
+    archives.assert_at_least([10_000, 9000, 7000, 4000, 1800, 130, 1000]);
+}
+
+/// The records without the returns of some adds.
+fn with_pending_adds(records: &[Record], random: &mut Random) -> Vec<Record> {
+    let stays = |record: &&Record| record.event != Event::ReturnAdd || random.below(8) > 0;
+    records.iter().filter(stays).copied().collect()
+}
+
+#[test]
+fn paired_operations_by_chance() {
+    let mut random = Random::new(82);
+    let mut archives = Archives::new();
+    for _ in 0..40_000 {
+        let count = 4 + random.below(MOST_OPERATIONS - 3);
+        let records = random_log_of_paired_operations(count, &mut random);
+        compare(&records, &mut archives);
+        compare(&with_pending_adds(&records, &mut random), &mut archives);
+    }
+    archives.assert_at_least([40_000, 0, 0, 0, 17_000, 5000, 12_000]);
+}
+
+const CHANGES: [Change; 7] = [
+    neighbours_exchanged,
+    a_return_sooner,
+    a_call_later,
+    values_added_exchanged,
+    outcomes_exchanged,
+    near_outcomes_exchanged,
+    an_outcome_changed,
+];
+
+#[test]
+fn short_runs_of_a_queue_changed_in_one_place() {
+    let mut random = Random::new(83);
+    let mut archives = Archives::new();
+    for seed in 0..12_000 {
+        let workers = 1 + random.below(6) as u16;
+        let load = *random.pick(&[Load::Even, Load::Busy]);
+        let n = 2 * (1 + random.below(MOST_OPERATIONS));
+        let run = simulate_load(load, workers, Clients::Reused, n, seed);
+        let run = run.with_pending_adds(10, &mut random);
+        assert_eq!(archives.compare_records(&run.records), ORDER);
+        if run.records.len() > 1 {
+            let change = random.pick(&CHANGES);
+            if let Some(changed) = change(&run, &mut random) {
+                compare(&changed, &mut archives);
+            }
+        }
+    }
+    archives.assert_at_least([18_000, 600, 70, 300, 200, 200, 150]);
+}

@@ -1,0 +1,59 @@
+//! Lists of operation numbers on all logs of few records, held against both ways in which the model
+//! finds the legal orders. The logs are all readable ones up to the naming of clients and values:
+//! these are numbered from 0 in the order in which they first appear, and the ticks rise by one.
+//! Two tests take the same logs with equal ticks and with other client numbers. Where a log has m
+//! operations, the lists are those of at most m + 1 numbers from 0 to m, or the arrangements: those
+//! of numbers from 0 to m - 1 without repeats.
+
+use yauponroof_tests::compare::every_order::{compare_every_arrangement, compare_every_list};
+use yauponroof_tests::compare::replay::Replays;
+use yauponroof_tests::logs::clients::{clients_apart, DISTANCES};
+use yauponroof_tests::logs::enumerate::every_log;
+use yauponroof_tests::model::record::Record;
+
+#[test]
+fn every_list_on_every_log_of_up_to_five_records() {
+    let mut replays = Replays::new();
+    every_log(5, &mut |records| {
+        compare_every_list(records, &mut replays);
+    });
+    replays.assert_answered(2200, 740_000);
+}
+
+#[test]
+fn every_arrangement_on_every_log_of_six_records() {
+    let mut replays = Replays::new();
+    every_log(6, &mut |records| {
+        if records.len() == 6 {
+            compare_every_arrangement(records, &mut replays);
+        }
+    });
+    replays.assert_answered(19_000, 330_000);
+}
+
+/// The same records, all of one tick.
+fn at_one_tick(records: &[Record], tick: u32) -> Vec<Record> {
+    records.iter().map(|r| Record { tick, ..*r }).collect()
+}
+
+#[test]
+fn equal_ticks_change_nothing() {
+    let mut replays = Replays::new();
+    every_log(5, &mut |records| {
+        for tick in [0, u32::MAX] {
+            compare_every_arrangement(&at_one_tick(records, tick), &mut replays);
+        }
+    });
+    replays.assert_answered(4400, 32_000);
+}
+
+#[test]
+fn clients_that_share_a_remainder_change_nothing() {
+    let mut replays = Replays::new();
+    every_log(5, &mut |records| {
+        for distance in DISTANCES {
+            compare_every_arrangement(&clients_apart(records, distance), &mut replays);
+        }
+    });
+    replays.assert_answered(6600, 48_000);
+}

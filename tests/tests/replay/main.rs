@@ -1,0 +1,12 @@
+//! Replay, which tests orders.
+
+mod bounds;
+mod clients;
+mod document;
+mod every_order;
+mod lent_bytes;
+mod precedence;
+mod random;
+mod sheets;
+mod spoilt_logs;
+mod spoilt_orders;

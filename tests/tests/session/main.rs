@@ -1,0 +1,12 @@
+//! Sessions, which are fed one record at a time.
+
+mod buffers;
+mod damaged;
+mod document;
+mod every_log;
+mod full;
+mod lent_buffers;
+mod random;
+mod refusals;
+mod threads;
+mod whole_logs;
