@@ -15,19 +15,39 @@ int make_folder(const char *folder)
     return 1;
 }
 
+/* Puts the path of a file together; 0 if it is too long, which is said. */
+static int find_path(const char *folder, const char *name, const char *ending,
+                     char path[PATH_MAX])
+{
+    int size = snprintf(path, PATH_MAX, "%s/%s%s", folder, name, ending);
+    if (size < 0 || size >= PATH_MAX)
+        return trouble("the name of the folder is too long");
+    return 1;
+}
+
 static int write_file(const char *folder, const char *name, const char *ending,
                       const uint8_t *bytes, size_t length)
 {
     char path[PATH_MAX];
-    int size = snprintf(path, sizeof path, "%s/%s%s", folder, name, ending);
-    if (size < 0 || (size_t)size >= sizeof path)
-        return trouble("the name of the folder is too long");
+    if (!find_path(folder, name, ending, path))
+        return 0;
     FILE *file = fopen(path, "wb");
     if (file == NULL)
         return trouble("%s: %s", path, strerror(errno));
     size_t written = fwrite(bytes, 1, length, file);
     if (fclose(file) != 0 || written != length)
         return trouble("%s is not written", path);
+    return 1;
+}
+
+/* Removes a file, if it is there. */
+static int remove_file(const char *folder, const char *name, const char *ending)
+{
+    char path[PATH_MAX];
+    if (!find_path(folder, name, ending, path))
+        return 0;
+    if (remove(path) != 0 && errno != ENOENT)
+        return trouble("%s: %s", path, strerror(errno));
     return 1;
 }
 
@@ -38,6 +58,7 @@ int keep(const char *folder, const char *name, const struct log *log,
     const struct log *excerpt = &verdict->excerpt;
     return write_file(folder, name, ".log", log->bytes, log->length) &&
            write_file(folder, name, ".sheet", sheet->bytes, sheet->length) &&
-           (sheet_verdict(sheet) == 0 ||
-            write_file(folder, name, ".excerpt.log", excerpt->bytes, excerpt->length));
+           (sheet_verdict(sheet) == 0
+                ? remove_file(folder, name, ".excerpt.log")
+                : write_file(folder, name, ".excerpt.log", excerpt->bytes, excerpt->length));
 }

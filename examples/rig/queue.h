@@ -26,7 +26,8 @@ struct queue_kind {
     /* Adds a value; 0 if that fails, which ends the run. */
     int (*add)(void *queue, uint32_t value);
 
-    /* Removes a value; 0 if the queue is empty. Does not wait for a value to come. */
+    /* Removes a value; 0 if the queue is empty, and only then: a queue that fails otherwise says so
+       and aborts. Does not wait for a value to come. */
     int (*remove)(void *queue, uint32_t *value);
 };
 

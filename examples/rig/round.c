@@ -11,6 +11,9 @@
  * The other way round does not hold. Operations that overlap in the log may have been apart in truth,
  * so that a fault can go unseen in one round and be seen in another.
  *
+ * What is still in the queue when the clients have ended is not removed. So the loss of a value shows
+ * only if one that was added later came out (pattern 4) or a remove found the queue empty (pattern 6).
+ *
  * Numbers are taken with memory_order_seq_cst, which releases and acquires: if the second number of o
  * is below the first number of p, all that o did happens before all that p does, for the compiler and
  * for the processor. With memory_order_relaxed the writes of o could become visible when p is already

@@ -1,6 +1,6 @@
 /*
- * What the queues that are an array behind a lock share: all but their remove. Each value that is ever
- * added has its own place.
+ * An array behind a lock, which is a correct queue, and what others here are made from. Each value
+ * that is ever added has its own place.
  */
 
 #ifndef LOCKED_ARRAY_H
@@ -17,7 +17,7 @@ struct array {
     uint32_t values[];
 };
 
-static void *make(unsigned values)
+static inline void *make(unsigned values)
 {
     struct array *array = malloc(sizeof *array + values * sizeof *array->values);
     if (array == NULL)
@@ -28,20 +28,38 @@ static void *make(unsigned values)
     return array;
 }
 
-static void destroy(void *queue)
+static inline void destroy(void *queue)
 {
     struct array *array = queue;
     pthread_mutex_destroy(&array->lock);
     free(array);
 }
 
-static int add(void *queue, uint32_t value)
+static inline int add(void *queue, uint32_t value)
 {
     struct array *array = queue;
     pthread_mutex_lock(&array->lock);
     array->values[array->back++] = value;
     pthread_mutex_unlock(&array->lock);
     return 1;
+}
+
+/* Removes the front for a caller that has the lock; 0 if the array is empty. */
+static inline int take_front(struct array *array, uint32_t *value)
+{
+    int found = array->front < array->back;
+    if (found)
+        *value = array->values[array->front++];
+    return found;
+}
+
+static inline int take(void *queue, uint32_t *value)
+{
+    struct array *array = queue;
+    pthread_mutex_lock(&array->lock);
+    int found = take_front(array, value);
+    pthread_mutex_unlock(&array->lock);
+    return found;
 }
 
 #endif /* LOCKED_ARRAY_H */

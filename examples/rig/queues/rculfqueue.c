@@ -10,6 +10,7 @@
 #include <urcu/rculfqueue.h>
 
 #include "queue.h"
+#include "trouble.h"
 
 struct node {
     struct cds_lfq_node_rcu link;
@@ -68,7 +69,8 @@ static int take(void *queue, uint32_t *value)
     return 1;
 }
 
-/* Only an empty queue can be destroyed. */
+/* Only an empty queue can be destroyed. The barrier waits, some 10 ms, until all that the queue has
+   handed to urcu_memb_call_rcu is freed. */
 static void destroy(void *queue)
 {
     struct nodes *nodes = queue;
@@ -77,8 +79,11 @@ static void destroy(void *queue)
     while (take(queue, &left))
         continue;
     leave(queue);
-    if (cds_lfq_destroy_rcu(&nodes->queue) != 0)
+    if (cds_lfq_destroy_rcu(&nodes->queue) != 0) {
+        trouble("a queue that was emptied is not empty");
         abort();
+    }
+    urcu_memb_barrier();
     free(nodes);
 }
 

@@ -59,7 +59,11 @@ void destroy(void *queue)
 
 int add(void *queue, uint32_t value)
 {
-    return static_cast<Queue *>(queue)->enqueue(value);
+    try {
+        return static_cast<Queue *>(queue)->enqueue(value);
+    } catch (const std::bad_alloc &) {
+        return 0;
+    }
 }
 
 int take(void *queue, uint32_t *value)
