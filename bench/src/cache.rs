@@ -1,13 +1,40 @@
-//! Lowe's cache: the configurations that the search has been in. A configuration is the set of the
-//! operations placed so far and the contents of the queue. Configurations are compared in full; the
-//! hash only says where to look.
+//! What a search remembers of the configurations that it has been in. A configuration is the set of
+//! the operations placed so far and the contents of the queue.
 
-use std::collections::HashMap;
+use std::collections::{HashMap, HashSet};
 use std::hash::{BuildHasherDefault, Hasher};
 
 use crate::placed::Placed;
 use crate::queue::Queue;
 
+pub trait Memory {
+    /// Whether the configuration is to be entered: not if it is known that the search has been there.
+    /// If so, it counts as entered.
+    fn enter(&mut self, placed: &Placed, queue: &Queue) -> bool;
+
+    /// How many configurations were entered.
+    fn entered(&self) -> usize;
+}
+
+/// Nothing is remembered, so that configurations are entered again and again.
+#[derive(Default)]
+pub struct NoCache {
+    entered: usize,
+}
+
+impl Memory for NoCache {
+    fn enter(&mut self, _: &Placed, _: &Queue) -> bool {
+        self.entered += 1;
+        true
+    }
+
+    fn entered(&self) -> usize {
+        self.entered
+    }
+}
+
+/// Lowe's cache: all configurations that were entered. They are compared in full; the hash only says
+/// where to look.
 #[derive(Default)]
 pub struct Cache {
     /// The latest configuration of each hash.
@@ -15,9 +42,8 @@ pub struct Cache {
     kept: Kept,
 }
 
-impl Cache {
-    /// Keeps the configuration if it is new; whether it is.
-    pub fn insert(&mut self, placed: &Placed, queue: &Queue) -> bool {
+impl Memory for Cache {
+    fn enter(&mut self, placed: &Placed, queue: &Queue) -> bool {
         let latest = self.latest.entry(placed.hash() ^ queue.hash());
         let latest = latest.or_insert(NONE);
         let is_new = !self.kept.has(*latest, placed, queue);
@@ -27,9 +53,16 @@ impl Cache {
         is_new
     }
 
-    /// How many configurations are kept.
-    pub fn len(&self) -> usize {
+    fn entered(&self) -> usize {
         self.kept.configurations.len()
+    }
+}
+
+impl Cache {
+    /// How many different sets of placed operations the configurations have.
+    pub fn sets(&self) -> usize {
+        let sets = (0..self.entered()).map(|number| self.kept.at(number).0);
+        sets.collect::<HashSet<_>>().len()
     }
 }
 
@@ -67,14 +100,23 @@ impl Kept {
     }
 
     fn is_at(&self, number: usize, placed: &Placed, queue: &Queue) -> bool {
+        let (set, contents) = self.at(number);
+        set == placed.window() && contents == queue.contents()
+    }
+
+    /// The set of the placed operations, as a window, and the contents of the queue.
+    #[inline]
+    fn at(&self, number: usize) -> ((usize, &[u64]), &[u32]) {
         let (words_start, values_start) = match number.checked_sub(1) {
             Some(before) => self.ends(before),
             None => (0, 0),
         };
         let (words_end, values_end) = self.ends(number);
         let full = self.configurations[number].full as usize;
-        (full, &self.words[words_start..words_end]) == placed.window()
-            && &self.values[values_start..values_end] == queue.contents()
+        (
+            (full, &self.words[words_start..words_end]),
+            &self.values[values_start..values_end],
+        )
     }
 
     fn ends(&self, number: usize) -> (usize, usize) {
@@ -124,7 +166,7 @@ impl Hasher for AsGiven {
 
 #[cfg(test)]
 mod tests {
-    use super::{Cache, Kept, NONE};
+    use super::{Cache, Kept, Memory, NoCache, NONE};
     use crate::placed::Placed;
     use crate::queue::Queue;
     use yauponroof_tests::model::history::Action;
@@ -143,23 +185,33 @@ mod tests {
         queue
     }
 
+    fn configurations() -> [(Placed, Queue); 4] {
+        [
+            (placed([]), queue(&[])),
+            (placed([0, 1]), queue(&[5, 6])),
+            (placed([0, 1]), queue(&[6, 5])),
+            (placed([0, 2]), queue(&[5, 6])),
+        ]
+    }
+
     #[test]
     fn a_configuration_is_new_once() {
         let mut cache = Cache::default();
-        let configurations = || {
-            [
-                (placed([]), queue(&[])),
-                (placed([0, 1]), queue(&[5, 6])),
-                (placed([0, 1]), queue(&[6, 5])),
-                (placed([0, 2]), queue(&[5, 6])),
-            ]
-        };
         for is_new in [true, false] {
             for (placed, queue) in configurations() {
-                assert_eq!(cache.insert(&placed, &queue), is_new);
+                assert_eq!(cache.enter(&placed, &queue), is_new);
             }
         }
-        assert_eq!(cache.len(), 4);
+        assert_eq!((cache.entered(), cache.sets()), (4, 3));
+    }
+
+    #[test]
+    fn without_a_cache_a_configuration_is_always_new() {
+        let mut nothing = NoCache::default();
+        for (placed, queue) in configurations().iter().chain(&configurations()) {
+            assert!(nothing.enter(placed, queue));
+        }
+        assert_eq!(nothing.entered(), 8);
     }
 
     /// As if they had the same hash, which chance does not give.

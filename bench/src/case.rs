@@ -105,6 +105,14 @@ impl Case {
         }
     }
 
+    pub fn sample(&self) -> Sample {
+        self.sample
+    }
+
+    pub fn operations(&self) -> &[Operation] {
+        &self.operations
+    }
+
     /// How the call of the entry ended. What it told must agree with the judge's sheet.
     pub fn ended(&self, entry: Entry, told: &Told, room: &Room) -> Ended {
         let agrees = match (entry, told) {

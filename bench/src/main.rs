@@ -2,7 +2,10 @@
 //! cache and the bare reading of the bytes. `bench/compare` builds and calls it:
 //!
 //!     compare table SECONDS                          prints the times; the limit of a search
-//!     compare reach                                  prints on how many logs the search ends
+//!     compare reach [no-cache]                       prints on how many logs the search ends, with
+//!                                                    its cache or without
+//!     compare reach sets                             prints how many sets of placed operations it
+//!                                                    has been in where it does not end
 //!     compare count ENTRY KIND RECORDS CLIENTS MOST  calls one entry once, for callgrind to count;
 //!                                                    the most configurations of a search
 //!
@@ -34,7 +37,7 @@ fn main() -> ExitCode {
         Some(()) => ExitCode::SUCCESS,
         None => {
             eprintln!("usage: compare table SECONDS");
-            eprintln!("       compare reach");
+            eprintln!("       compare reach [no-cache | sets]");
             eprintln!("       compare count ENTRY KIND RECORDS CLIENTS MOST");
             ExitCode::from(2)
         }
@@ -48,7 +51,9 @@ fn run(words: &[&str]) -> Option<()> {
             let limit = Duration::try_from_secs_f64(seconds.parse().ok()?).ok()?;
             table::print(limit);
         }
-        ["reach"] => reach::print(),
+        ["reach"] => reach::print_ended(),
+        ["reach", "no-cache"] => reach::print_ended_without_cache(),
+        ["reach", "sets"] => reach::print_sets(),
         ["count", entry, kind, records, clients, most] => {
             let kind = KINDS.into_iter().find(|known| known.name() == *kind)?;
             let sample = Sample::first(kind, records.parse().ok()?, clients.parse().ok()?);

@@ -7,6 +7,7 @@ use yauponroof_tests::library::{begin, check, close, feed, judge, replay};
 use yauponroof_tests::model::history::Operation;
 use yauponroof_tests::{Answer, Session};
 
+use crate::cache::Cache;
 use crate::search::{search, Limit, Outcome};
 
 /// The bare reading: each byte of the log is loaded, by itself and once, and added to a sum. The
@@ -56,5 +57,5 @@ pub fn measured_session(log: &[u8], buffer: &mut [u8], sheet: &mut [u8]) -> Answ
 #[no_mangle]
 #[inline(never)]
 pub fn measured_search(operations: &[Operation], limit: Limit) -> Outcome {
-    black_box(search(operations, limit))
+    black_box(search(operations, &mut Cache::default(), limit))
 }

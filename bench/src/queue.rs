@@ -43,6 +43,7 @@ impl Queue {
     }
 
     /// The hash of the contents: that of all that was added, without the part of what is gone.
+    #[inline]
     pub fn hash(&self) -> u64 {
         let gone = self.hashes[self.removed].wrapping_mul(self.powers[self.contents().len()]);
         self.hashes[self.added.len()].wrapping_sub(gone)

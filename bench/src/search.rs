@@ -1,14 +1,14 @@
-//! The search of Wing and Gong for a legal order (a linearization), with Lowe's cache. It places one
-//! operation after the other. Next may come any operation that was called before the first return of
-//! one that is not placed; they are tried in the order of their calls. If none of them can come next,
-//! the latest one is taken back. What Lowe added is to remember every configuration, so that none is
-//! entered twice. The search knows a queue only as something that operations are run on.
+//! The search of Wing and Gong for a legal order (a linearization), with Lowe's cache or without. It
+//! places one operation after the other. Next may come any operation that was called before the first
+//! return of one that is not placed; they are tried in the order of their calls. If none of them can
+//! come next, the latest one is taken back. What Lowe added is to remember every configuration, so
+//! that none is entered twice. The search knows a queue only as something that operations are run on.
 
 use std::time::{Duration, Instant};
 
 use yauponroof_tests::model::history::Operation;
 
-use crate::cache::Cache;
+use crate::cache::Memory;
 use crate::call_list::{CallList, Event};
 use crate::placed::Placed;
 use crate::queue::Queue;
@@ -31,15 +31,16 @@ pub enum Limit {
     Configurations(usize),
 }
 
-/// Searches for a legal order of these operations of a readable log.
-pub fn search(operations: &[Operation], limit: Limit) -> Outcome {
+/// Searches for a legal order of these operations of a readable log. What it has entered stays in the
+/// memory.
+pub fn search(operations: &[Operation], memory: &mut impl Memory, limit: Limit) -> Outcome {
     let start = Instant::now();
-    let mut search = Search::new(operations);
+    let mut search = Search::new(operations, memory);
     let mut at = search.list.first();
     while search.to_return > 0 {
         match search.list.event(at) {
             Event::Call(number) if search.place(number) => {
-                if is_reached(limit, start, search.cache.len()) {
+                if is_reached(limit, start, search.memory.entered()) {
                     return Outcome::GaveUp;
                 }
                 at = search.list.first();
@@ -64,7 +65,7 @@ fn is_reached(limit: Limit, start: Instant, configurations: usize) -> bool {
 }
 
 /// How a search stands.
-struct Search<'a> {
+struct Search<'a, M> {
     operations: &'a [Operation],
     /// The calls and returns of the operations that are not placed.
     list: CallList,
@@ -72,20 +73,20 @@ struct Search<'a> {
     order: Vec<u16>,
     placed: Placed,
     queue: Queue,
-    cache: Cache,
+    memory: &'a mut M,
     /// How many operations have returned and are not placed. Pending adds may be left out.
     to_return: usize,
 }
 
-impl<'a> Search<'a> {
-    fn new(operations: &'a [Operation]) -> Search<'a> {
+impl<'a, M: Memory> Search<'a, M> {
+    fn new(operations: &'a [Operation], memory: &'a mut M) -> Search<'a, M> {
         Search {
             operations,
             list: CallList::new(operations),
             order: Vec::with_capacity(operations.len()),
             placed: Placed::none_of(operations.len()),
             queue: Queue::new(operations.len()),
-            cache: Cache::default(),
+            memory,
             to_return: operations.iter().filter(|o| o.returned.is_some()).count(),
         }
     }
@@ -98,7 +99,7 @@ impl<'a> Search<'a> {
             return false;
         }
         self.placed.insert(number);
-        if !self.cache.insert(&self.placed, &self.queue) {
+        if !self.memory.enter(&self.placed, &self.queue) {
             self.placed.remove(number);
             self.queue.take_back(operation.action);
             return false;
@@ -137,6 +138,7 @@ mod tests {
     use yauponroof_tests::random::Random;
 
     use super::{search, Limit, Outcome};
+    use crate::cache::{Cache, NoCache};
 
     const NO_LIMIT: Limit = Limit::Configurations(usize::MAX);
 
@@ -148,24 +150,23 @@ mod tests {
     }
 
     impl Seen {
-        /// Holds the search against that of the tests.
+        /// Holds the search, with its cache and without, against that of the tests.
         fn compare(&mut self, records: &[Record]) {
             let operations = operations(records);
             let has_order = has_linearization(&operations);
-            match search(&operations, NO_LIMIT) {
-                Outcome::Order(order) => {
-                    assert!(
-                        has_order && is_linearization(&operations, &order),
-                        "{records:?}"
-                    );
-                    self.orders += 1;
-                }
-                Outcome::NoOrder => {
-                    assert!(!has_order, "{records:?}");
-                    self.no_orders += 1;
-                }
-                Outcome::GaveUp => panic!("there was no limit"),
+            for outcome in [
+                search(&operations, &mut Cache::default(), NO_LIMIT),
+                search(&operations, &mut NoCache::default(), NO_LIMIT),
+            ] {
+                let agrees = match outcome {
+                    Outcome::Order(order) => has_order && is_linearization(&operations, &order),
+                    Outcome::NoOrder => !has_order,
+                    Outcome::GaveUp => panic!("there was no limit"),
+                };
+                assert!(agrees, "{records:?}");
             }
+            self.orders += usize::from(has_order);
+            self.no_orders += usize::from(!has_order);
         }
 
         fn assert_at_least(&self, orders: usize, no_orders: usize) {
@@ -224,15 +225,16 @@ mod tests {
     #[test]
     fn it_gives_up_at_its_limit() {
         let operations = operations(&calls_then_returns(1024));
-        assert!(matches!(search(&operations, NO_LIMIT), Outcome::Order(_)));
-        let limit = Limit::Configurations(511);
-        assert_eq!(search(&operations, limit), Outcome::GaveUp);
+        let searched = |limit| search(&operations, &mut Cache::default(), limit);
+        assert!(matches!(searched(NO_LIMIT), Outcome::Order(_)));
+        assert_eq!(searched(Limit::Configurations(511)), Outcome::GaveUp);
     }
 
     #[test]
     fn it_gives_up_when_its_time_is_up() {
-        let run = simulate_run(8, Clients::Reused, 1024, 304);
+        let operations = operations(&simulate_run(8, Clients::Reused, 1024, 304).records);
         let limit = Limit::Time(Duration::ZERO);
-        assert_eq!(search(&operations(&run.records), limit), Outcome::GaveUp);
+        let outcome = search(&operations, &mut Cache::default(), limit);
+        assert_eq!(outcome, Outcome::GaveUp);
     }
 }

@@ -23,42 +23,45 @@ const SIZES: [(usize, u16); 10] = [
     (1024, 64),
 ];
 
+const HEADS: [&str; 12] = [
+    "kind",
+    "records",
+    "clients",
+    "verdict",
+    "read/us",
+    "judge/us",
+    "check",
+    "judge",
+    "replay",
+    "session",
+    "search",
+    "search/judge",
+];
+
 /// Measures a log of each kind and size, and prints a row for each. A search gives up at the limit.
 pub fn print(limit: Duration) {
-    print_row([
-        "kind",
-        "records",
-        "clients",
-        "verdict",
-        "read/us",
-        "judge/us",
-        "check",
-        "judge",
-        "replay",
-        "session",
-        "search",
-        "search/judge",
-    ]);
+    println!("{}", row(HEADS));
     for kind in KINDS {
         for (records, clients) in SIZES {
-            let cells = row(Sample::first(kind, records, clients), limit);
-            print_row(cells.each_ref().map(String::as_str));
+            let case = Case::new(Sample::first(kind, records, clients));
+            let cells = cells(&case, measured(&case, limit), limit);
+            println!("{}", row(cells.each_ref().map(String::as_str)));
         }
     }
 }
 
-fn print_row(cells: [&str; 12]) {
-    let [kind, records, clients, verdict, numbers @ ..] = cells;
-    let [read, judge, ratios @ ..] = numbers;
-    print!("{kind:<12} {records:>7} {clients:>7} {verdict:<9} {read:>7} {judge:>8}");
+fn row(cells: [&str; 12]) -> String {
+    let [kind, records, clients, verdict, read, judge, ratios @ ..] = cells;
+    let log = format!("{kind:<12} {records:>7} {clients:>7} {verdict:<9} {read:>7} {judge:>8}");
     let [check, judge, replay, session, search, slower] = ratios;
-    println!(" {check:>6} {judge:>6} {replay:>6} {session:>7} {search:>8} {slower:>12}");
+    format!("{log} {check:>6} {judge:>6} {replay:>6} {session:>7} {search:>8} {slower:>12}")
 }
 
-fn row(sample: Sample, limit: Duration) -> [String; 12] {
-    let case = Case::new(sample);
-    let [read, check, judge, replay, session, search] = medians(
-        &case,
+/// The seconds of a call of each entry, in the order of the columns; none if it gives up, or has
+/// nothing to do.
+fn measured(case: &Case, limit: Duration) -> [Option<f64>; 6] {
+    medians(
+        case,
         [
             Entry::Read,
             Entry::Check,
@@ -67,7 +70,11 @@ fn row(sample: Sample, limit: Duration) -> [String; 12] {
             Entry::Session,
             Entry::Search(Limit::Time(limit)),
         ],
-    );
+    )
+}
+
+fn cells(case: &Case, seconds: [Option<f64>; 6], limit: Duration) -> [String; 12] {
+    let [read, check, judge, replay, session, search] = seconds;
     let read = read.expect("the bare reading ends");
     let judge = judge.expect("the judge ends");
     let for_each_read = |seconds: Option<f64>, otherwise: &str| match seconds {
@@ -78,11 +85,12 @@ fn row(sample: Sample, limit: Duration) -> [String; 12] {
         Some(seconds) => figures(seconds / judge),
         None => format!(">{}", figures(limit.as_secs_f64() / judge)),
     };
+    let sample = case.sample();
     [
         sample.kind.name().to_string(),
         sample.records.to_string(),
         sample.clients.to_string(),
-        verdict(&case),
+        verdict(case),
         format!("{:.2}", 1e6 * read),
         format!("{:.0}", 1e6 * judge),
         for_each_read(check, "-"),
@@ -114,15 +122,56 @@ fn figures(ratio: f64) -> String {
 mod tests {
     use std::time::Duration;
 
-    use super::{figures, row};
+    use super::{cells, figures, measured, row, HEADS};
+    use crate::case::Case;
     use crate::logs::{Kind, Sample};
 
+    const LIMIT: Duration = Duration::from_secs(2);
+
+    fn sound() -> Case {
+        Case::new(Sample::first(Kind::Sound, 64, 8))
+    }
+
     #[test]
-    fn a_row_tells_the_log_and_what_could_not_be_measured() {
-        let sample = Sample::first(Kind::FalseEmpty, 256, 16);
-        let cells = row(sample, Duration::ZERO);
+    fn times_are_told_for_each_one_of_the_bare_reading() {
+        let seconds = [2e-6, 8e-6, 50e-6, 30e-6, 1e-3, 4e-4].map(Some);
+        assert_eq!(
+            cells(&sound(), seconds, LIMIT),
+            ["sound", "64", "8", "order", "2.00", "50", "4.0", "25", "15", "500", "200", "8.0"]
+        );
+    }
+
+    #[test]
+    fn a_search_that_gives_up_has_taken_its_limit() {
+        let mut seconds = [2e-6, 8e-6, 50e-6, 30e-6, 1e-3, 4e-4].map(Some);
+        seconds[5] = None;
+        let cells = cells(&sound(), seconds, LIMIT);
+        assert_eq!(cells[10..], ["gave up", ">40000"]);
+    }
+
+    /// Which entries end does not depend on the clock: with no time at all a search gives up when it
+    /// first looks at it.
+    #[test]
+    fn what_gives_up_or_has_nothing_to_do_is_not_measured() {
+        let case = Case::new(Sample::first(Kind::FalseEmpty, 256, 16));
+        let is_measured = measured(&case, Duration::ZERO).map(|seconds| seconds.is_some());
+        assert_eq!(is_measured, [true, true, true, false, true, false]);
+        let cells = cells(&case, [1.0; 6].map(Some), LIMIT);
         assert_eq!(cells[..4], ["false-empty", "256", "16", "pattern 6"]);
-        assert_eq!([&cells[8], &cells[10]], ["-", "gave up"]);
+    }
+
+    #[test]
+    fn cells_stand_below_their_heads() {
+        let cells = [
+            "sound", "64", "8", "order", "0.18", "4", "8.7", "24", "15", "334", "44", "1.9",
+        ];
+        assert_eq!(
+            [row(HEADS), row(cells)],
+            [
+                "kind         records clients verdict   read/us judge/us  check  judge replay session   search search/judge",
+                "sound             64       8 order        0.18        4    8.7     24     15     334       44          1.9",
+            ]
+        );
     }
 
     #[test]
