@@ -13,8 +13,6 @@
 #include "trouble.h"
 #include "verdict.h"
 
-#define PATTERNS 6
-
 /* What comes of driving queues, as the exit status tells it. */
 enum outcome { ALL_WELL, PATTERN_FOUND, TROUBLE };
 

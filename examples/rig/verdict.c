@@ -1,6 +1,10 @@
 #include "verdict.h"
 
 #include "trouble.h"
+#include "yauponroof_recorder.h"
+
+/* The bytes of a log before its records, and of a sheet before the operations that it lists. */
+enum { LOG_HEADER = 3, SHEET_HEADER = 4 };
 
 unsigned sheet_verdict(const struct sheet *sheet)
 {
@@ -14,7 +18,7 @@ unsigned sheet_count(const struct sheet *sheet)
 
 unsigned sheet_operation(const struct sheet *sheet, unsigned i)
 {
-    const uint8_t *number = sheet->bytes + 4 + 2 * i;
+    const uint8_t *number = sheet->bytes + SHEET_HEADER + 2 * i;
     return (unsigned)number[0] << 8 | number[1];
 }
 
@@ -27,11 +31,36 @@ static int accepted(yr_answer answer, const char *what)
                    (unsigned)YR_VALUE(answer));
 }
 
+/* How many operations a log has: it has a call for each. */
+static unsigned count_operations(const struct log *log)
+{
+    unsigned calls = 0;
+    for (size_t at = LOG_HEADER; at + 1 < log->length; at += 1u + log->bytes[at])
+        calls += log->bytes[at + 1] == YR_RECORDER_ADD_CALLED ||
+                 log->bytes[at + 1] == YR_RECORDER_REMOVE_CALLED;
+    return calls;
+}
+
+/* Whether a sheet has a verdict, and lists operations that the log has, as many as it says. */
+static int is_sheet_of(const struct sheet *sheet, const struct log *log)
+{
+    unsigned operations = count_operations(log);
+    if (sheet->length > sizeof sheet->bytes || sheet_verdict(sheet) > PATTERNS ||
+        sheet->length != SHEET_HEADER + 2 * sheet_count(sheet))
+        return 0;
+    for (unsigned i = 0; i < sheet_count(sheet); i++)
+        if (sheet_operation(sheet, i) >= operations)
+            return 0;
+    return 1;
+}
+
 static int write_sheet(const struct log *log, struct sheet *sheet, const char *what)
 {
     yr_answer answer = yr_judge(log->bytes, log->length, sheet->bytes, sizeof sheet->bytes);
     sheet->length = YR_VALUE(answer);
-    return accepted(answer, what);
+    if (!accepted(answer, what))
+        return 0;
+    return is_sheet_of(sheet, log) || trouble("what is written is no sheet of %s", what);
 }
 
 /* Whether the order on the sheet is legal for the log. */
@@ -50,8 +79,11 @@ static int judge_excerpt(const struct log *log, struct verdict *verdict)
     yr_answer answer =
         yr_excerpt(log->bytes, log->length, excerpt->bytes, sizeof excerpt->bytes);
     excerpt->length = YR_VALUE(answer);
-    if (!accepted(answer, "the excerpt") ||
-        !write_sheet(excerpt, &verdict->excerpt_sheet, "the log of the excerpt"))
+    if (!accepted(answer, "the excerpt"))
+        return 0;
+    if (excerpt->length > log->length)
+        return trouble("the excerpt is longer than the log");
+    if (!write_sheet(excerpt, &verdict->excerpt_sheet, "the log of the excerpt"))
         return 0;
     return sheet_verdict(&verdict->excerpt_sheet) == sheet_verdict(&verdict->sheet) ||
            trouble("the excerpt judged by itself has another verdict");

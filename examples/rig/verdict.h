@@ -11,6 +11,9 @@
 #include "round.h"
 #include "yauponroof.h"
 
+/* The highest number of a pattern. */
+#define PATTERNS 6
+
 struct sheet {
     uint8_t bytes[YR_SHEET_MAX];
     size_t length;
@@ -31,7 +34,8 @@ unsigned sheet_count(const struct sheet *sheet);
 unsigned sheet_operation(const struct sheet *sheet, unsigned i);
 
 /* Judges a log. An order is replayed, an excerpt judged by itself. 0 if there was trouble, which is
-   said: a refusal, an order that is not legal, an excerpt with another verdict. */
+   said: a refusal, a sheet that is none of the log, an order that is not legal, an excerpt with another
+   verdict. */
 int judge(const struct log *log, struct verdict *verdict);
 
 #endif /* VERDICT_H */

@@ -1,6 +1,7 @@
 //! All entries that take a log, on one log: held against the tests' own reader, their table of
 //! patterns, their search for an order where the log is short, their excerpts and narrowings.
 
+use yauponroof_tests::compare::buffer_lengths::in_room;
 use yauponroof_tests::compare::narrowing::compare_narrowing;
 use yauponroof_tests::compare::reading::Tally;
 use yauponroof_tests::hex::show;
@@ -14,7 +15,7 @@ use yauponroof_tests::model::reader;
 use yauponroof_tests::model::record::Record;
 use yauponroof_tests::model::search::has_linearization;
 use yauponroof_tests::model::violations::first_violation;
-use yauponroof_tests::{answered, refused, Answer, Outcome};
+use yauponroof_tests::{answered, Answer, Outcome};
 
 use crate::choices::Choices;
 use crate::reached::{Of, Reached};
@@ -80,12 +81,12 @@ impl Calls {
     /// With another length of its buffer a call gives what it gives with enough bytes, or 24.
     fn compare_room(&self, enough: Outcome, call: impl FnMut(&mut [u8]) -> Answer) -> Answer {
         let room = near(enough.as_ref().map_or(0, Vec::len), self.room);
-        let expected = match enough {
-            Ok(bytes) if room < bytes.len() => Err(refused(24, 0)),
-            outcome => outcome,
-        };
         let outcome = written_twice(room, call);
-        assert_eq!(outcome, expected, "left: the library, with {room} bytes");
+        assert_eq!(
+            outcome,
+            in_room(&enough, room),
+            "left: the library, with {room} bytes"
+        );
         answered(&outcome)
     }
 

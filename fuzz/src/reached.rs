@@ -21,7 +21,8 @@ pub enum Of {
 }
 
 /// The name of each, and the numbers that are to be reached. Of an answer 0 is accepted, and the
-/// others are refusals. Only 21 of a feed is not: no input here holds 1,024 records.
+/// others are refusals. 21 of a feed is not: no input here holds 1,024 records. Refused logs are counted
+/// at yr_check and yr_replay; that the other calls refuse them alike is compared.
 const TO_REACH: [(&str, &[usize]); 12] = [
     ("yr_check", &[0, 1, 2, 3, 4, 5, 6, 7, 8, 9, 10]),
     ("yr_replay", &[0, 1, 2, 3, 4, 5, 6, 7, 8, 9, 10, 11]),

@@ -3,10 +3,8 @@
 
 use yauponroof_tests::compare::script::{play, Step};
 use yauponroof_tests::compare::session::{Compared, Entry};
-use yauponroof_tests::model::reader::HEADER;
 use yauponroof_tests::model::record::Record;
-use yauponroof_tests::model::session::{State, CLOSED, OPEN};
-use yauponroof_tests::model::sheet;
+use yauponroof_tests::model::session::{CLOSED, OPEN};
 use yauponroof_tests::model::writer::record_bytes;
 
 use crate::choices::Choices;
@@ -148,17 +146,17 @@ impl<'a> Player<'a> {
     }
 
     fn close(&mut self, choices: &mut Choices) {
-        let needed = sheet_length(self.session.state());
+        let needed = self.session.state().sheet_length();
         self.play_step(Step::Close(near(needed, choices.byte())));
     }
 
     fn sheet(&mut self, choices: &mut Choices) {
-        let needed = sheet_length(self.session.state());
+        let needed = self.session.state().sheet_length();
         self.play_step(Step::Sheet(near(needed, choices.byte())));
     }
 
     fn excerpt(&mut self, choices: &mut Choices) {
-        let needed = excerpt_length(self.session.state());
+        let needed = self.session.state().excerpt_length();
         self.play_step(Step::Excerpt(near(needed, choices.byte())));
     }
 
@@ -173,24 +171,6 @@ impl<'a> Player<'a> {
         };
         self.play_step(step);
     }
-}
-
-/// How long the sheet of a session is once it is closed, if it can be.
-fn sheet_length(state: &State) -> usize {
-    let judged = closed(state).sheet(usize::MAX);
-    judged.map_or(sheet::HEADER, |judged| judged.sheet_length())
-}
-
-/// The same for its excerpt.
-fn excerpt_length(state: &State) -> usize {
-    let excerpt = closed(state).excerpt(usize::MAX);
-    excerpt.map_or(HEADER, |excerpt| excerpt.len())
-}
-
-fn closed(state: &State) -> State {
-    let mut closed = state.clone();
-    closed.session.stage = CLOSED;
-    closed
 }
 
 fn counted(entry: Entry) -> Of {

@@ -384,8 +384,8 @@ fn played(steps: &str) -> String {
     answers.join("; ")
 }
 
-/// The answer of a session's line without the marks of bookmarks, which are not there yet: the
-/// fourth word of what it says last.
+/// The answer of a session's line without the bookmarks, which sessions do not have: the third word
+/// behind "state".
 fn without_marks(answer: &str) -> String {
     let (answers, state) = answer.rsplit_once("state ").expect("a state");
     let fields: Vec<&str> = state.split_whitespace().collect();

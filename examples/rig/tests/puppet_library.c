@@ -7,12 +7,16 @@
 
 #include "yauponroof.h"
 
-/* The verdicts on the log of a round and on its excerpt, and what replay says. */
+/* The verdicts on the log of a round and on its excerpt, how many operations a sheet says that it lists
+   (it lists none), and what replay says. */
 #ifndef LOG_VERDICT
 #define LOG_VERDICT 0
 #endif
 #ifndef EXCERPT_VERDICT
 #define EXCERPT_VERDICT LOG_VERDICT
+#endif
+#ifndef LISTED
+#define LISTED 0
 #endif
 #ifndef REPLAY_SAYS
 #define REPLAY_SAYS 1
@@ -33,7 +37,7 @@ static const uint8_t excerpt[] = {1, 0, 0};
 yr_answer yr_judge(const uint8_t *log, size_t log_len, uint8_t *sheet, size_t sheet_len)
 {
     int of_excerpt = log_len == sizeof excerpt;
-    const uint8_t listing_nothing[] = {1, of_excerpt ? EXCERPT_VERDICT : LOG_VERDICT, 0, 0};
+    const uint8_t listing_nothing[] = {1, of_excerpt ? EXCERPT_VERDICT : LOG_VERDICT, 0, LISTED};
     (void)log, (void)sheet_len;
     if (REFUSED == (of_excerpt ? LOG_OF_EXCERPT : LOG))
         return REFUSAL;

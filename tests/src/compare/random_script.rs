@@ -10,7 +10,6 @@ use crate::model::record::{
     call_add, call_remove, return_add, return_empty, return_value, Event, Record,
 };
 use crate::model::session::{State, CLOSED};
-use crate::model::sheet;
 use crate::model::writer::{log, record_bytes};
 use crate::random::Random;
 
@@ -205,13 +204,11 @@ impl<'a> Author<'a> {
 
     /// A length for a sheet: mostly what is needed, or nearly so.
     fn room_for_sheet(&mut self, state: &State) -> usize {
-        let sheet = closed(state).sheet(usize::MAX);
-        self.near(sheet.map_or(sheet::HEADER, |judged| judged.sheet_length()))
+        self.near(state.sheet_length())
     }
 
     fn room_for_excerpt(&mut self, state: &State) -> usize {
-        let excerpt = closed(state).excerpt(usize::MAX);
-        self.near(excerpt.map_or(HEADER, |bytes| bytes.len()))
+        self.near(state.excerpt_length())
     }
 
     fn near(&mut self, needed: usize) -> usize {
@@ -303,11 +300,4 @@ impl Drop for Script {
             println!("the last steps of {}: {:?}", self.0.len(), &self.0[shown..]);
         }
     }
-}
-
-/// The state as if it were closed.
-fn closed(state: &State) -> State {
-    let mut closed = state.clone();
-    closed.session.stage = CLOSED;
-    closed
 }

@@ -3,6 +3,7 @@
 use crate::model::judged_log::JudgedLog;
 use crate::model::reader::{self, Refusal, HEADER, MAX_RECORDS};
 use crate::model::record::Record;
+use crate::model::sheet;
 use crate::model::writer::header;
 use crate::{refused, Answer, Outcome, Session};
 
@@ -18,6 +19,26 @@ pub struct State {
 }
 
 impl State {
+    /// The state as if it were closed.
+    fn as_closed(&self) -> State {
+        let mut closed = self.clone();
+        closed.session.stage = CLOSED;
+        closed
+    }
+
+    /// How long the sheet is once the session is closed; if it cannot be, that of a sheet that lists
+    /// nothing.
+    pub fn sheet_length(&self) -> usize {
+        let sheet = self.as_closed().sheet(usize::MAX);
+        sheet.map_or(sheet::HEADER, |judged| judged.sheet_length())
+    }
+
+    /// The same of the excerpt, and of a log without records.
+    pub fn excerpt_length(&self) -> usize {
+        let excerpt = self.as_closed().excerpt(usize::MAX);
+        excerpt.map_or(HEADER, |bytes| bytes.len())
+    }
+
     /// "Beginning writes 01 00 00", and "24: under 3 bytes at beginning". How the session stood
     /// before does not matter.
     pub fn begin(&mut self) -> Answer {
