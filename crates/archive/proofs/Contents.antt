@@ -13,6 +13,7 @@ use Rattle.buffer.specs.Buffer.{bufferTooShort, lacksRoom, written}
 use Rattle.reader.specs.Log.{maxRecords, Reading, readable, refused, readLog, operations, encodeLog}
 use Rattle.reader.specs.Readable.{Within}
 use Rattle.reader.proofs.Laws.{within, few-operations}
+use Rattle.history.specs.Object.{Queue}
 use Rattle.history.specs.Operations.{historyOf}
 use Rattle.history.specs.Sheet.{orderVerdict, sheetOf, listedOn}
 use Rattle.history.proofs.Sheets.{sheet-lists}
@@ -33,13 +34,14 @@ use Rattle.archive.specs.Archive.{verdictByte, Archive, with-order, with
 pub record Contents (log sheet : List ℕ) : Type 0 where
   pub records : List Record
   pub reads : readLog log ≡ readable records
-  pub verdict : violations.Verdict (historyOf records) (verdictByte sheet) (listedOn sheet)
+  pub verdict : violations.Verdict Queue (historyOf records) (verdictByte sheet) (listedOn sheet)
   pub chosen : verdictByte sheet ≡ orderVerdict → Found (historyOf records) (listedOn sheet)
   -- the sheet has no other bytes
   pub whole : sheet ≡ sheetOf (verdictByte sheet) (listedOn sheet)
 
 -- a sheet that judging wrote
-sheet-contents : (log : List ℕ) (records : List Record) → readLog log ≡ readable records → {byte : ℕ} {listed sheet : List ℕ} → violations.Verdict (historyOf records) byte listed
+sheet-contents : (log : List ℕ) (records : List Record) → readLog log ≡ readable records → {byte : ℕ} {listed sheet : List ℕ}
+    → violations.Verdict Queue (historyOf records) byte listed
     → (byte ≡ orderVerdict → Found (historyOf records) listed) → sheet ≡ sheetOf byte listed → Contents log sheet
 sheet-contents log records reads {byte} {listed} {sheet} verdict chosen e =
     let small : Within (readable records) = rw reads at (within log) in
@@ -69,8 +71,8 @@ archive-contents {log} (with-order j) = judged-contents log order j
 archive-contents {log} (with-pattern j out e) = judged-contents log pattern j
 
 -- the excerpt that a call wrote
-excerpt-is : (records : List Record) (out : List ℕ) {written : ℕ} {n : ℕ} {listed : List ℕ} → violations.FirstViolation (historyOf records) n listed
-    → (found : SomeViolation (historyOf records) ⊎ NoViolation (historyOf records)) → excerptAnswerOf records found out ≡ Written written
+excerpt-is : (records : List Record) (out : List ℕ) {written : ℕ} {n : ℕ} {listed : List ℕ} → violations.FirstViolation Queue (historyOf records) n listed
+    → (found : SomeViolation Queue (historyOf records) ⊎ NoViolation Queue (historyOf records)) → excerptAnswerOf records found out ≡ Written written
     → take written (excerptLeavesOf records found out) ≡ encodeLog (excerpted records listed)
 excerpt-is records out {written} {listed = listed} first (inr clean) e = let z : _≡_ {A = ℕ} 0 1 = cc in absurd (omega arith)
 excerpt-is records out {written} {listed = listed} first (inl (m, other, found)) e = rw (first-violation-one first found .1) (go (lacksRoom bytes out) e)
@@ -85,6 +87,7 @@ excerpt-is records out {written} {listed = listed} first (inl (m, other, found))
 
 -- with a pattern the excerpt of its operations is kept
 pub archive-excerpt : {log sheet excerpt : List ℕ} → Archive log sheet excerpt → (records : List Record) → readLog log ≡ readable records
-    → violations.FirstViolation (historyOf records) (verdictByte sheet) (listedOn sheet) → (verdictByte sheet ≡ orderVerdict → ⊥) → excerpt ≡ encodeLog (excerpted records (listedOn sheet))
+    → violations.FirstViolation Queue (historyOf records) (verdictByte sheet) (listedOn sheet) → (verdictByte sheet ≡ orderVerdict → ⊥)
+    → excerpt ≡ encodeLog (excerpted records (listedOn sheet))
 archive-excerpt {log} (with-order j) records reads first some = absurd (some (order-byte log j))
-archive-excerpt (with-pattern j out e) records reads first some = rw reads (excerpt-is records out first (first-violation (historyOf records)) (rw reads at e))
+archive-excerpt (with-pattern j out e) records reads first some = rw reads (excerpt-is records out first (first-violation Queue (historyOf records)) (rw reads at e))

@@ -10,13 +10,14 @@ use Rattle.record.specs.declared.record.Record.{Record}
 use Rattle.buffer.specs.Buffer.{written}
 use Rattle.reader.specs.Log.{readable, readLog, encodeLog}
 use Rattle.reader.proofs.Laws.{readable-log}
+use Rattle.history.specs.Object.{Queue}
 use Rattle.history.specs.Operations.{historyOf}
 use Rattle.history.specs.Sheet.{orderVerdict, sheetOf}
-use Rattle.history.proofs.Laws.{history-lawful}
+use Rattle.history.proofs.Laws.{history-lawful, history-returned}
 use Rattle.violations.specs.Violations.{NoViolation}
 use Rattle.violations.specs.Verdict as violations
 use Rattle.violations.specs.Found.{Found}
-use Rattle.violations.proofs.Laws.{SomeViolation, first-violation, first-violation-one, occurs-numbered, verdict}
+use Rattle.violations.proofs.Laws.{SomeViolation, first-violation, first-violation-one, occurs-numbered, found-verdict}
 use Rattle.judge.specs.Judge.{verdictOf, Delivers, Judges, judged}
 use Rattle.judge.specs.declared.judge.Verdict.the-variants.{Pattern}
 use Rattle.projection.specs.Projection.{excerpted}
@@ -26,7 +27,8 @@ use Rattle.archive.specs.Archive.{Archive, with-order, with-pattern}
 
 module _ (log : List ℕ) (records : List Record) (reads : readLog log ≡ readable records) where
   -- a verdict is judged into a sheet that is as long as its own
-  judges-own : {byte : ℕ} {listed : List ℕ} → violations.Verdict (historyOf records) byte listed → (byte ≡ orderVerdict → Found (historyOf records) listed)
+  judges-own : {byte : ℕ} {listed : List ℕ} → violations.Verdict Queue (historyOf records) byte listed
+      → (byte ≡ orderVerdict → Found (historyOf records) listed)
       → (left : List ℕ) × Judges (readLog log) (sheetOf byte listed) (verdictOf byte (length listed)) left
   judges-own {byte} {listed} v chosen =
       let fits = le-ltb (length (sheetOf byte listed)) (length (sheetOf byte listed)) (omega arith) in
@@ -37,7 +39,8 @@ module _ (log : List ℕ) (records : List Record) (reads : readLog log ≡ reada
       (written (sheetOf byte listed) (sheetOf byte listed), rw reads own)
 
   -- the excerpt fits into a buffer that is as long as it
-  excerpt-own : {n : ℕ} {listed : List ℕ} → violations.FirstViolation (historyOf records) n listed → (found : SomeViolation (historyOf records) ⊎ NoViolation (historyOf records))
+  excerpt-own : {n : ℕ} {listed : List ℕ} → violations.FirstViolation Queue (historyOf records) n listed
+      → (found : SomeViolation Queue (historyOf records) ⊎ NoViolation Queue (historyOf records))
       → excerptAnswerOf records found (encodeLog (excerpted records listed)) ≡ Written (length (encodeLog (excerpted records listed)))
   excerpt-own {n} {listed} first (inr clean) = absurd (clean n listed (first .occurs))
   excerpt-own {n} {listed} first (inl (m, other, found)) =
@@ -45,13 +48,17 @@ module _ (log : List ℕ) (records : List Record) (reads : readLog log ≡ reada
       rw (first-violation-one first found .1, le-ltb (length bytes) (length bytes) (omega arith)) refl
 
   pub archive-exists : (sheet : List ℕ) × (excerpt : List ℕ) × Archive log sheet excerpt
-  archive-exists = let (byte, listed, v, chosen) = verdict (history-lawful (readable-log log records reads)) in go v chosen
+  archive-exists =
+      let read = readable-log log records reads in
+      let (byte, listed, v, chosen) = found-verdict (history-lawful read) (history-returned read) in
+      go v chosen
     where
-      go : {byte : ℕ} {listed : List ℕ} → violations.Verdict (historyOf records) byte listed → (byte ≡ orderVerdict → Found (historyOf records) listed)
+      go : {byte : ℕ} {listed : List ℕ} → violations.Verdict Queue (historyOf records) byte listed → (byte ≡ orderVerdict → Found (historyOf records) listed)
           → (sheet : List ℕ) × (excerpt : List ℕ) × Archive log sheet excerpt
-      go (violations.Verdict.linearization x) chosen = let (left, j) = judges-own (violations.Verdict.linearization x) chosen in (_, _, with-order j)
-      go {byte} {listed} (violations.Verdict.violation x) chosen =
-          let (left, j) = judges-own (violations.Verdict.violation x) chosen in
+      go (violations.Verdict.linearization s x) chosen = let (left, j) = judges-own (violations.Verdict.linearization s x) chosen in (_, _, with-order j)
+      go {byte} {listed} (violations.Verdict.violation x none) chosen =
+          let (left, j) = judges-own (violations.Verdict.violation x none) chosen in
           let named : verdictOf byte (length listed) ≡ Pattern byte (length listed) = rw (ne-eqb byte orderVerdict (λ e. omega (arith, occurs-numbered (x .occurs)))) refl in
-          let wrote : excerptAnswer (readLog log) (encodeLog (excerpted records listed)) ≡ Written (length (encodeLog (excerpted records listed))) = rw reads (excerpt-own x (first-violation (historyOf records))) in
-          (_, _, with-pattern (rw named at j) (encodeLog (excerpted records listed)) wrote)
+          let bytes = encodeLog (excerpted records listed) in
+          let wrote : excerptAnswer (readLog log) bytes ≡ Written (length bytes) = rw reads (excerpt-own x (first-violation Queue (historyOf records))) in
+          (_, _, with-pattern (rw named at j) bytes wrote)

@@ -2,7 +2,6 @@
 -- pattern with the operations that document 01 picks; the excerpt, judged by itself, gives the same number; neighbouring calls, or returns, that
 -- trade places leave the verdict as it is.
 use Prim.Native.Nat.{ℕ}
-use native.Mathlib.Decide.{ℕ-discrete}
 use mathlib.Core.Path.{_≡_, sym, ap, _∙_}
 use mathlib.Core.Logic.{_↔_}
 use mathlib.Core.List.{List}
@@ -10,12 +9,13 @@ use Rattle.record.specs.Number.{Bytes}
 use Rattle.record.specs.declared.record.Record.{Record}
 use Rattle.reader.specs.Log.{readable, readLog, encodeLog}
 use Rattle.reader.proofs.Laws.{readable-log}
+use Rattle.history.specs.Object.{Queue}
 use Rattle.history.specs.Linearization.{Linearization}
 use Rattle.history.specs.Operations.{historyOf}
 use Rattle.history.specs.Sheet.{orderVerdict, sheetOf, listedOn}
-use Rattle.history.proofs.Laws.{history-lawful}
+use Rattle.history.proofs.Laws.{history-lawful, history-returned}
 use Rattle.violations.specs.Verdict.{FirstViolation, JudgedLinearization, Verdict}
-use Rattle.violations.proofs.Laws.{excluded, zero-is-linearization, pattern-of}
+use Rattle.violations.proofs.Laws.{verdict-exactly, returned-lone, zero-is-linearization, pattern-of}
 use Rattle.replay.specs.Replay.{replayed}
 use Rattle.replay.specs.declared.replay.Replayed.the-variants.{Yes}
 use Rattle.replay.proofs.Laws.{linearization-replays}
@@ -31,7 +31,7 @@ pub use Rattle.archive.proofs.Only.{archive-one}
 
 -- What the sheet of an archive holds: the verdict of the log's history, in the form that document 01 gives, and nothing else.
 pub verdict-is : {log sheet excerpt : List ℕ} {records : List Record} → readLog log ≡ readable records → Archive log sheet excerpt
-    → Verdict (historyOf records) (verdictByte sheet) (listedOn sheet) × (sheet ≡ sheetOf (verdictByte sheet) (listedOn sheet))
+    → Verdict Queue (historyOf records) (verdictByte sheet) (listedOn sheet) × (sheet ≡ sheetOf (verdictByte sheet) (listedOn sheet))
 verdict-is {records = records} reads archive =
     let c = archive-contents archive in
     let read : readable (c .records) ≡ readable records = sym (c .reads) ∙ reads in
@@ -40,16 +40,14 @@ verdict-is {records = records} reads archive =
 
 module _ {log : List ℕ} {records : List Record} (reads : readLog log ≡ readable records) {sheet excerpt : List ℕ} (archive : Archive log sheet excerpt) where
   -- "For every readable log the archive holds a legal order exactly when one exists":
-  pub order-exactly : (verdictByte sheet ≡ orderVerdict) ↔ ((order : List ℕ) × Linearization (historyOf records) order)
-  order-exactly = (λ e. (listedOn sheet, zero-is-linearization (verdict-is reads archive .0) e .legal), λ found. unless-pattern (found .0) (found .1) (ℕ-discrete (verdictByte sheet) orderVerdict))
-    where
-      unless-pattern : (order : List ℕ) → Linearization (historyOf records) order → Dec (verdictByte sheet ≡ orderVerdict) → verdictByte sheet ≡ orderVerdict
-      unless-pattern order legal (yes e) = e
-      unless-pattern order legal (no n) = absurd (excluded (history-lawful (readable-log log records reads)) legal (pattern-of (verdict-is reads archive .0) n .occurs))
+  pub order-exactly : (verdictByte sheet ≡ orderVerdict) ↔ ((order : List ℕ) × Linearization Queue (historyOf records) order)
+  order-exactly =
+      let read = readable-log log records reads in
+      verdict-exactly Queue (history-lawful read) (returned-lone (history-returned read)) (verdict-is reads archive .0)
 
   -- the order that it holds is legal, lists an open add exactly if its value was removed, and replay says yes to its sheet;
-  pub order-is-legal : verdictByte sheet ≡ orderVerdict → JudgedLinearization (historyOf records) (listedOn sheet)
-  order-is-legal e = zero-is-linearization (verdict-is reads archive .0) e
+  pub order-is-legal : verdictByte sheet ≡ orderVerdict → JudgedLinearization Queue (historyOf records) (listedOn sheet)
+  order-is-legal e = zero-is-linearization (history-returned (readable-log log records reads)) (verdict-is reads archive .0) e
 
   pub order-replays : verdictByte sheet ≡ orderVerdict → replayed (readLog log) sheet ≡ Yes
   order-replays e =
@@ -57,7 +55,7 @@ module _ {log : List ℕ} {records : List Record} (reads : readLog log ≡ reada
       ∙ linearization-replays log records reads (listedOn sheet) (order-is-legal e .legal) .1
 
   -- "otherwise the pattern with the operations that document 01 picks": the lowest number that occurs, with its lowest list.
-  pub pattern-is-first : (verdictByte sheet ≡ orderVerdict → ⊥) → FirstViolation (historyOf records) (verdictByte sheet) (listedOn sheet)
+  pub pattern-is-first : (verdictByte sheet ≡ orderVerdict → ⊥) → FirstViolation Queue (historyOf records) (verdictByte sheet) (listedOn sheet)
   pattern-is-first n = pattern-of (verdict-is reads archive .0) n
 
   -- "the excerpt, judged by itself, gives the same number": it is a readable log, and every archive of it has the same verdict byte.

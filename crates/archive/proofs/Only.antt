@@ -8,13 +8,14 @@ use mathlib.Core.List.{List, []}
 use Rattle.record.specs.declared.record.Record.{Record}
 use Rattle.reader.specs.Log.{readable, readLog, encodeLog}
 use Rattle.reader.proofs.Laws.{readable-log}
-use Rattle.history.specs.History.{Lawful}
+use Rattle.history.specs.Object.{Queue}
+use Rattle.history.specs.History.{RemovesReturned, Lawful}
 use Rattle.history.specs.Operations.{historyOf}
 use Rattle.history.specs.Sheet.{orderVerdict, sheetOf, listedOn}
-use Rattle.history.proofs.Laws.{history-lawful}
+use Rattle.history.proofs.Laws.{history-lawful, history-returned}
 use Rattle.violations.specs.Violations.{NoViolation}
 use Rattle.violations.specs.Verdict.{FirstViolation}
-use Rattle.violations.proofs.Laws.{SomeViolation, first-violation, excluded, verdict-one, listed-one, zero-is-linearization, pattern-of}
+use Rattle.violations.proofs.Laws.{SomeViolation, first-violation, judged-complete, excluded, verdict-one, listed-one, zero-is-linearization, pattern-of}
 use Rattle.projection.specs.Projection.{excerpted}
 use Rattle.projection.specs.Outcome.{excerptAnswerOf, excerptAnswer}
 use Rattle.projection.specs.declared.write.Projected.the-variants.{Written}
@@ -25,21 +26,27 @@ use Rattle.archive.proofs.Contents.{Contents, archive-contents, archive
 contents-lawful : {log sheet : List ℕ} (c : Contents log sheet) → Lawful (historyOf (c .records))
 contents-lawful {log} c = history-lawful (readable-log log (c .records) (c .reads))
 
+-- and no remove is pending in it
+contents-returned : {log sheet : List ℕ} (c : Contents log sheet) → RemovesReturned (historyOf (c .records))
+contents-returned {log} c = history-returned (readable-log log (c .records) (c .reads))
+
 -- one log has one sheet
 contents-one : {log sheet sheet' : List ℕ} → Contents log sheet → Contents log sheet' → sheet ≡ sheet'
 contents-one {sheet = sheet} {sheet' = sheet'} c d =
     let read : readable (d .records) ≡ readable (c .records) = sym (d .reads) ∙ c .reads in
     let same : d .records ≡ c .records = cc in
     let byte : verdictByte sheet ≡ verdictByte sheet' = verdict-one (contents-lawful c) (c .verdict) (rw same at (d .verdict)) .0 in
-    let lists : listedOn sheet ≡ listedOn sheet' = listed-one (contents-lawful c) (c .verdict) (c .chosen) (rw same at (d .verdict)) (rw same at (d .chosen)) in
+    let lists : listedOn sheet ≡ listedOn sheet' =
+    listed-one (contents-lawful c) (contents-returned c) (c .verdict) (c .chosen) (rw same at (d .verdict)) (rw same at (d .chosen)) in
     c .whole ∙ ap (λ b. sheetOf b (listedOn sheet)) byte ∙ ap (sheetOf (verdictByte sheet')) lists ∙ sym (d .whole)
 
 -- with an order no excerpt is written
 unwritten : {log sheet : List ℕ} (c : Contents log sheet) → verdictByte sheet ≡ orderVerdict → (out : List ℕ) {n : ℕ} → excerptAnswer (readLog log) out ≡ Written n → ⊥
-unwritten c e out {n} wrote = go (first-violation (historyOf (c .records))) (rw (c .reads) at wrote)
+unwritten c e out {n} wrote = go (first-violation Queue (historyOf (c .records))) (rw (c .reads) at wrote)
   where
-    go : (found : SomeViolation (historyOf (c .records)) ⊎ NoViolation (historyOf (c .records))) → excerptAnswerOf (c .records) found out ≡ Written n → ⊥
-    go (inl (number, listed, first)) w = excluded (contents-lawful c) (zero-is-linearization (c .verdict) e .legal) (first .occurs)
+    go : (found : SomeViolation Queue (historyOf (c .records)) ⊎ NoViolation Queue (historyOf (c .records)))
+        → excerptAnswerOf (c .records) found out ≡ Written n → ⊥
+    go (inl (number, listed, first)) w = excluded (contents-lawful c) (judged-complete (zero-is-linearization (contents-returned c) (c .verdict) e)) (first .occurs)
     go (inr clean) w = let z : _≡_ {A = ℕ} 0 1 = cc in omega arith
 
 order-alone : {log sheet excerpt : List ℕ} → Archive log sheet excerpt → Contents log sheet → verdictByte sheet ≡ orderVerdict → excerpt ≡ []
@@ -55,7 +62,8 @@ archive-one {log} {sheet} {sheet'} {excerpt} {excerpt'} x y = (same, go (ℕ-dis
     same : sheet ≡ sheet'
     same = contents-one c (archive-contents y)
 
-    with-first : (records : List Record) → readLog log ≡ readable records → FirstViolation (historyOf records) (verdictByte sheet) (listedOn sheet) → (verdictByte sheet ≡ orderVerdict → ⊥) → excerpt ≡ excerpt'
+    with-first : (records : List Record) → readLog log ≡ readable records
+        → FirstViolation Queue (historyOf records) (verdictByte sheet) (listedOn sheet) → (verdictByte sheet ≡ orderVerdict → ⊥) → excerpt ≡ excerpt'
     with-first records reads first n =
         archive-excerpt x records reads first n ∙ ap (λ s. encodeLog (excerpted records (listedOn s))) same ∙ sym (archive-excerpt y records reads (rw same at first) (λ e. n (ap verdictByte same ∙ e)))
 

@@ -11,10 +11,11 @@ use Rattle.record.specs.declared.record.Record.{Record}
 use Rattle.reader.specs.Log.{logVersion, readable, readLog, encodeAll, encodeLog}
 use Rattle.reader.specs.Readable.{Orderly}
 use Rattle.reader.proofs.Laws.{readable-log, readable-orderly, orderly-readable}
+use Rattle.history.specs.Object.{Queue}
 use Rattle.history.specs.Operations.{historyOf}
-use Rattle.history.proofs.Laws.{history-lawful}
+use Rattle.history.proofs.Laws.{history-lawful, history-returned}
 use Rattle.violations.specs.Verdict.{Verdict}
-use Rattle.violations.proofs.Laws.{alike-verdict}
+use Rattle.violations.proofs.Laws.{alike-verdict, returned-lone}
 use Rattle.archive.specs.Trade.{withTick, traded, Traded}
 use Rattle.archive.proofs.Trade.{traded-orderly, traded-length}
 use Rattle.archive.proofs.Alike.{traded-alike}
@@ -28,10 +29,12 @@ module _ {log log' : List ℕ} (bytes : Bytes log) (t : Traded log log') where
   traded-readable = ap readLog (t .bytes) ∙ orderly-readable (traded (t .place) (t .records)) (traded-orderly was-orderly (t .tradable))
 
   -- its verdict byte is the same
-  pub traded-verdict : {m n : ℕ} {xs ys : List ℕ} → Verdict (historyOf (t .records)) m xs → Verdict (historyOf (traded (t .place) (t .records))) n ys → m ≡ n
-  traded-verdict = alike-verdict
-      (history-lawful (readable-log log (t .records) (t .reads)))
-      (history-lawful (readable-log log' (traded (t .place) (t .records)) traded-readable))
+  pub traded-verdict : {m n : ℕ} {xs ys : List ℕ} → Verdict Queue (historyOf (t .records)) m xs
+      → Verdict Queue (historyOf (traded (t .place) (t .records))) n ys → m ≡ n
+  traded-verdict =
+      let read = readable-log log (t .records) (t .reads) in
+      let read' = readable-log log' (traded (t .place) (t .records)) traded-readable in
+      alike-verdict Queue (history-lawful read) (history-lawful read') (returned-lone (history-returned read)) (returned-lone (history-returned read'))
       (traded-alike was-orderly (t .tradable))
 
 -- "the two records change places whole but for their ticks, no other byte changes": what stands before and behind the two records is the same.

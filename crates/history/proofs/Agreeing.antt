@@ -1,13 +1,16 @@
 -- Histories that agree on their operations have the same legal orders. Nothing is known of numbers that are no operations,
 -- so a run goes over from one history to the other along with the fact that it lists operations only.
-use Prim.Native.Nat.{ℕ, suc, _<_}
+use Prim.Native.Nat.{ℕ, _<_}
 use native.Mathlib.Omega.{arith}
 use mathlib.Core.Path.{sym, _∙_}
 use mathlib.Core.List.{List}
 use lib.ListN.{length}
 use Rattle.history.specs.History.{History}
-use Rattle.history.specs.Linearization.{Makes, puts, takes, meets, Fifo, done, then, placed, Linearization}
+use Rattle.history.specs.Object.{Object, Queue, Cell}
+use Rattle.history.specs.Register.{Content, Stores, writes, reads, reads-initial}
+use Rattle.history.specs.Linearization.{Makes, puts, takes, meets, Moves, makes, takes-front, finds-none, Runs, placed, Ordering, Linearization, CompleteLinearization}
 use Rattle.history.specs.Table.{Agree}
+use Rattle.history.proofs.Running.{run-over}
 
 pub agree-sym : {h k : History} → Agree h k → Agree k h
 agree-sym a = record {
@@ -25,16 +28,40 @@ agree-makes a o l (puts e) = rw (a .value o l) (puts (sym (a .kind o l) ∙ e))
 agree-makes a o l (takes e f) = takes (sym (a .kind o l) ∙ e) (sym (a .value o l) ∙ f)
 agree-makes a o l (meets e) = meets (sym (a .kind o l) ∙ e)
 
--- operations that can be run in one can be run in the other
-agree-fifo : {h k : History} → Agree h k → {order queue : List ℕ} → ((i : ℕ) → i < length order → placed order i < h .count) → Fifo h order queue → Fifo k order queue
-agree-fifo a known done = done
-agree-fifo a known (then {o = o} made rest) = then (agree-makes a o (known 0 (omega arith)) made) (agree-fifo a (λ i l. known (suc i) (omega arith)) rest)
+agree-moves : {h k : History} → Agree h k → (o : ℕ) → o < h .count → {queue queue' : List ℕ} → Moves h o queue queue' → Moves k o queue queue'
+agree-moves a o l (makes made) = makes (agree-makes a o l made)
+agree-moves a o l (takes-front e) = takes-front (sym (a .kind o l) ∙ e)
+agree-moves a o l (finds-none e) = finds-none (sym (a .kind o l) ∙ e)
 
-pub agree-linearization : {h k : History} → Agree h k → (order : List ℕ) → Linearization h order → Linearization k order
-agree-linearization {h} a order legal = record {
-  known = λ i below. omega (arith, legal .known i below, a .count);
-  every = λ o below returned. let there : o < h .count = omega (arith, a .count) in legal .every o there (omega (arith, a .ret o there, a .end));
-  once = legal .once;
-  keeps = λ i j before below precedes. legal .keeps i j before below (omega (arith, a .ret (placed order j) (legal .known j below), a .call (placed order i) (legal .known i (omega arith))));
-  runs = agree-fifo a (legal .known) (legal .runs);
+-- and of a cell
+agree-stores : {h k : History} → Agree h k → (o : ℕ) → o < h .count → {c c' : Content} → Stores h o c c' → Stores k o c c'
+agree-stores a o l (writes e) = rw (a .value o l) (writes (sym (a .kind o l) ∙ e))
+agree-stores a o l (reads e f) = reads (sym (a .kind o l) ∙ e) (sym (a .value o l) ∙ f)
+agree-stores a o l (reads-initial e) = reads-initial (sym (a .kind o l) ∙ e)
+
+-- operations that can be run in one can be run in the other
+agree-runs : (object : Object) {h k : History} → Agree h k → (order : List ℕ) → ((i : ℕ) → i < length order → placed order i < h .count)
+    → Runs object h order → Runs object k order
+agree-runs Queue a order known run = run-over (λ i l queue queue'. agree-moves a (placed order i) (known i l)) run
+agree-runs Cell a order known run = run-over (λ i l c c'. agree-stores a (placed order i) (known i l)) run
+
+agree-ordering : {h k : History} → Agree h k → {order : List ℕ} → Ordering h order → Ordering k order
+agree-ordering {h} a {order} o = record {
+  known = λ i below. omega (arith, o .known i below, a .count);
+  every = λ p below returned. let there : p < h .count = omega (arith, a .count) in o .every p there (omega (arith, a .ret p there, a .end));
+  once = o .once;
+  keeps = λ i j before below precedes.
+      o .keeps i j before below (omega (arith, a .ret (placed order j) (o .known j below), a .call (placed order i) (o .known i (omega arith))));
+}
+
+pub agree-linearization : (object : Object) {h k : History} → Agree h k → {order : List ℕ} → Linearization object h order → Linearization object k order
+agree-linearization object a {order} legal = record {
+  ordering = agree-ordering a (legal .ordering);
+  runs = agree-runs object a order (legal .ordering .known) (legal .runs);
+}
+
+pub agree-complete : {h k : History} → Agree h k → {order : List ℕ} → CompleteLinearization h order → CompleteLinearization k order
+agree-complete a {order} legal = record {
+  ordering = agree-ordering a (legal .ordering);
+  runs = run-over (λ i l queue queue'. agree-makes a (placed order i) (legal .ordering .known i l)) (legal .runs);
 }

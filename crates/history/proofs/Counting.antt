@@ -11,7 +11,7 @@ use borrow.Author.Tests.{lt-ltb, le-ltb}
 use Rattle.record.specs.Choice.{if_then_else_}
 use Rattle.reader.proofs.Search.{Lowest, None, lowest}
 use Rattle.history.specs.History.{History}
-use Rattle.history.specs.Linearization.{placed, Linearization}
+use Rattle.history.specs.Linearization.{placed, Ordering}
 
 -- the numbers other than i, in their order
 skip : ℕ → ℕ → ℕ
@@ -94,5 +94,5 @@ partners-are-few R k n some apart =
     partner-is i l (yes m) = some i m .2
     partner-is i l (no n) = absurd (n l)
 
-pub linearization-short : (h : History) (order : List ℕ) → Linearization h order → length order ≤ h .count
-linearization-short h order legal = different-are-few (placed order) (length order) (h .count) (legal .known) (legal .once)
+pub ordering-short : {h : History} {order : List ℕ} → Ordering h order → length order ≤ h .count
+ordering-short {h} {order} o = different-are-few (placed order) (length order) (h .count) (o .known) (o .once)

@@ -7,10 +7,14 @@ use mathlib.Core.Logic.{_⊎_, inl, inr, ⊎-elim, Dec·and, Dec·not}
 use mathlib.Core.List.{List, [], _∷_, _++_}
 use lib.ListN.{length}
 use Rattle.reader.proofs.Search.{Lowest, None, lowest}
-use Rattle.history.specs.History.{History, add, remove, emptyRemove, Returned, Precedes}
-use Rattle.history.specs.Linearization.{Makes, puts, takes, meets, Fifo, done, then, placed, Listed, Linearization}
+use Rattle.history.specs.History.{History, add, remove, emptyRemove, noKind, Returned, Precedes}
+use Rattle.history.specs.Object.{Object, Queue, Cell}
+use Rattle.history.specs.Register.{Content, initial, holds, Stores, writes, reads, reads-initial}
+use Rattle.history.specs.Linearization.{Makes, puts, takes, meets, Moves, makes, takes-front, finds-none, Runs, placed, Listed, Linearization}
 use Rattle.history.proofs.Basics.{up-to}
-use Rattle.history.proofs.Queues.{makes-one, fifo-first}
+use Rattle.history.proofs.Running.{run?}
+use Rattle.history.proofs.Queues.{moves-one}
+use Rattle.history.proofs.Registers.{stores-one}
 
 -- a statement on all numbers below a bound is decided by deciding it for each
 unfoldable pub all-below? : {P : ℕ → Type 0} → ((i : ℕ) → Dec (P i)) → (n : ℕ) → Dec ((i : ℕ) → i < n → P i)
@@ -85,18 +89,53 @@ makes? h o (v ∷ queue) = go (ℕ-discrete (h .kind o) add) (Dec·and (ℕ-disc
     go (no n) (yes t) = yes (queue, takes (t .0) (t .1))
     go (no n) (no m) = no (λ made. neither n m (made .1))
 
--- whether operations can be run from a queue on
-unfoldable pub fifo? : (h : History) (order queue : List ℕ) → Dec (Fifo h order queue)
-fifo? h [] queue = yes done
-fifo? h (o ∷ order) queue = go (makes? h o queue) (λ queue'. fifo? h order queue')
+-- whether there is something that an operation may do to a queue
+unfoldable pub moves? : (h : History) (o : ℕ) (queue : List ℕ) → Dec ((queue' : List ℕ) × Moves h o queue queue')
+unfolding makes?
+moves? h o queue = go queue (makes? h o queue) (ℕ-discrete (h .kind o) noKind)
   where
-    rest? : {queue' : List ℕ} → Makes h o queue queue' → Dec (Fifo h order queue') → Dec (Fifo h (o ∷ order) queue)
-    rest? made (yes rest) = yes (then made rest)
-    rest? made (no n) = no (λ run. n (rw (makes-one made (fifo-first run .1)) (fifo-first run .2)))
+    pending : (queue : List ℕ) → h .kind o ≡ noKind → (queue' : List ℕ) × Moves h o queue queue'
+    pending [] e = ([], finds-none e)
+    pending (v ∷ queue) e = (queue, takes-front e)
 
-    go : Dec ((queue' : List ℕ) × Makes h o queue queue') → ((queue' : List ℕ) → Dec (Fifo h order queue')) → Dec (Fifo h (o ∷ order) queue)
-    go (yes made) d = rest? (made .1) (d (made .0))
-    go (no n) d = no (λ run. n (fifo-first run .0, fifo-first run .1))
+    neither : {queue : List ℕ} → ((queue' : List ℕ) × Makes h o queue queue' → ⊥) → (h .kind o ≡ noKind → ⊥) → {queue' : List ℕ} → Moves h o queue queue' → ⊥
+    neither n m (makes {queue' = queue'} made) = n (queue', made)
+    neither n m (takes-front e) = m e
+    neither n m (finds-none e) = m e
+
+    go : (queue : List ℕ) → Dec ((queue' : List ℕ) × Makes h o queue queue') → Dec (h .kind o ≡ noKind) → Dec ((queue' : List ℕ) × Moves h o queue queue')
+    go queue (yes made) d = yes (made .0, makes (made .1))
+    go queue (no n) (yes e) = yes (pending queue e)
+    go queue (no n) (no m) = no (λ moved. neither n m (moved .1))
+
+-- whether there is something that an operation makes of a cell
+unfoldable pub stores? : (h : History) (o : ℕ) (c : Content) → Dec ((c' : Content) × Stores h o c c')
+stores? h o initial = go (ℕ-discrete (h .kind o) add) (ℕ-discrete (h .kind o) emptyRemove)
+  where
+    neither : (h .kind o ≡ add → ⊥) → (h .kind o ≡ emptyRemove → ⊥) → {c' : Content} → Stores h o initial c' → ⊥
+    neither n m (writes a) = n a
+    neither n m (reads-initial e) = m e
+
+    go : Dec (h .kind o ≡ add) → Dec (h .kind o ≡ emptyRemove) → Dec ((c' : Content) × Stores h o initial c')
+    go (yes a) d = yes (holds (h .value o), writes a)
+    go (no n) (yes e) = yes (initial, reads-initial e)
+    go (no n) (no m) = no (λ made. neither n m (made .1))
+stores? h o (holds v) = go (ℕ-discrete (h .kind o) add) (Dec·and (ℕ-discrete (h .kind o) remove) (ℕ-discrete (h .value o) v))
+  where
+    neither : (h .kind o ≡ add → ⊥) → ((h .kind o ≡ remove) × (h .value o ≡ v) → ⊥) → {c' : Content} → Stores h o (holds v) c' → ⊥
+    neither n m (writes a) = n a
+    neither n m (reads r e) = m (r, e)
+
+    go : Dec (h .kind o ≡ add) → Dec ((h .kind o ≡ remove) × (h .value o ≡ v)) → Dec ((c' : Content) × Stores h o (holds v) c')
+    go (yes a) d = yes (holds (h .value o), writes a)
+    go (no n) (yes t) = yes (holds v, reads (t .0) (t .1))
+    go (no n) (no m) = no (λ made. neither n m (made .1))
+
+-- whether an order can be run from the start
+unfoldable pub runs? : (object : Object) (h : History) (order : List ℕ) → Dec (Runs object h order)
+unfolding run? moves? stores?
+runs? Queue h order = run? (λ o queue left right. moves-one) (moves? h) order []
+runs? Cell h order = run? (λ o c left right. stores-one) (stores? h) order initial
 
 -- whether an order lists every returned operation
 unfoldable pub every? : (h : History) (order : List ℕ) → Dec ((o : ℕ) → o < h .count → Returned h o → Listed order o)
@@ -109,14 +148,17 @@ unfolding all-below? decLt Dec·not
 keeps? h order = all-below? (λ j. all-below? (λ i. Dec·not (decLt _ _)) j) (length order)
 
 -- whether a list is a legal order of a history
-unfoldable pub linearization? : (h : History) (order : List ℕ) → Dec (Linearization h order)
-unfolding all-below? equivalent? every? keeps? makes? fifo? ℕ-discrete decLt Dec·and Dec·not
-linearization? h order =
+unfoldable pub linearization? : (object : Object) (h : History) (order : List ℕ) → Dec (Linearization object h order)
+unfolding all-below? equivalent? every? keeps? makes? moves? stores? run? runs? ℕ-discrete decLt Dec·and Dec·not
+linearization? object h order =
     equivalent?
-    (λ p. record { known = p .0; every = p .1 .0; once = λ i j l h. p .1 .1 .0 j h i l; keeps = λ i j l h. p .1 .1 .1 .0 j h i l; runs = p .1 .1 .1 .1 })
-    (λ l. (l .known, (l .every, (λ j h i k. l .once i j k h, (λ j h i k. l .keeps i j k h, l .runs)))))
+    (λ p. record {
+      ordering = record { known = p .0; every = p .1 .0; once = λ i j l m. p .1 .1 .0 j m i l; keeps = λ i j l m. p .1 .1 .1 .0 j m i l };
+      runs = p .1 .1 .1 .1;
+    })
+    (λ l. let o = l .ordering in (o .known, (o .every, (λ j m i k. o .once i j k m, (λ j m i k. o .keeps i j k m, l .runs)))))
     (Dec·and (all-below? (λ i. decLt (placed order i) (h .count)) (length order))
     (Dec·and (every? h order)
     (Dec·and (all-below? (λ j. all-below? (λ i. Dec·not (ℕ-discrete (placed order i) (placed order j))) j) (length order))
     (Dec·and (keeps? h order)
-    (fifo? h order [])))))
+    (runs? object h order)))))

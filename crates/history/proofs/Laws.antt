@@ -13,7 +13,7 @@ use Rattle.record.specs.declared.record.Event.the-variants.{CallAdd, CallRemove
 use Rattle.record.specs.declared.record.Record.{Record}
 use Rattle.reader.specs.Log.{isCall, operations}
 use Rattle.reader.specs.Readable.{recordOf, asks, leaves, ReadableLog}
-use Rattle.history.specs.History.{add, emptyRemove, Returned, Lawful}
+use Rattle.history.specs.History.{add, emptyRemove, Returned, Lawful, RemovesReturned}
 use Rattle.history.specs.Operations.{callIndex, returnIndex, positionOf, historyOf}
 use Rattle.history.proofs.Numbering.{Called, call-of, same-call, calls-rise, return-is-next, next-is-return, next-of-one}
 use Rattle.history.proofs.Events.{asks-call, leaves-call, asks-remove}
@@ -131,13 +131,18 @@ module _ {log : List ℕ} {records : List Record} (readable : ReadableLog log re
       let same : returnOf o ≡ returnOf p = position-apart (readable .partial) (returnOf o) (returnOf p) at-o at-p (sym (returned-at o at-o) ∙ e ∙ returned-at p at-p) in
       same-call records o p h k (next-of-one records (callOf o) (callOf p) (returnOf p) (rw (← same) (return-is-next records (callOf o) at-o)) (return-is-next records (callOf p) at-p))
 
+-- no remove is pending, since the reader refuses a log with one
+pub history-returned : {log : List ℕ} {records : List Record} → ReadableLog log records → RemovesReturned (historyOf records)
+history-returned readable o h = kinds readable o h .0
+
 -- the history of a readable log
 pub history-lawful : {log : List ℕ} {records : List Record} → ReadableLog log records → Lawful (historyOf records)
 history-lawful {records = records} readable = record {
-  kinds = kinds readable;
+  kinds = λ o h. kinds readable o h .1;
   spans = spans readable;
   ends = λ o h. ends readable o;
-  returned = returned readable;
+  returned = λ o h l. returned readable o h (λ e. omega arith);
+  unreturned = λ o h e back. omega (arith, kinds readable o h);
   apart = apart readable;
   numbered = λ o p l h. position-calls (readable .partial) (callIndex records o) (callIndex records p) (calls-rise records o p l h) (call-of records p h .below) (call-of records o (omega arith) .is-call) (call-of records p h .is-call);
   once = once readable;

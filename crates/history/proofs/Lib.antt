@@ -12,7 +12,9 @@ pub mod Numbering
 pub mod Positions
 pub mod Queues
 pub mod Reaching
+pub mod Registers
 pub mod Rows
+pub mod Running
 pub mod Searching
 pub mod Sheets
 pub mod Tabulating

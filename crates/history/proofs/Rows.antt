@@ -11,8 +11,9 @@ use Rattle.reader.specs.Log.{ofOthers, pendingCalls, pendingKind, earliestRemov
 use Rattle.table.specs.Table.{isIn}
 use Rattle.history.specs.Each.{Each}
 use Rattle.history.specs.History.{History}
+use Rattle.history.specs.Object.{Object, Queue, Cell}
 use Rattle.history.specs.Operations.{callIndex, firstOf, positionOf, historyOf}
-use Rattle.history.specs.Runs.{recordsFrom, recordsOf, Row, Holds, AllLegal, linearizations, NoneLegal, noLinearizations}
+use Rattle.history.specs.Runs.{recordsFrom, recordsOf, Row, Holds, Fits, AllLegal, linearizations, NoneLegal, noLinearizations, openLinearizations, noOpenLinearizations, cellLinearizations, noCellLinearizations}
 use Rattle.history.proofs.Deciding.{linearization?}
 
 -- whether each of a list has a property
@@ -22,13 +23,13 @@ each? d [] = yes tt
 each? d (x ∷ xs) = Dec·and (d x) (each? d xs)
 
 -- whether all of some lists are legal orders, and whether none is
-all-legal? : (h : History) (lists : List (List ℕ)) → Dec (AllLegal h lists)
+all-legal? : (object : Object) (h : History) (lists : List (List ℕ)) → Dec (AllLegal object h lists)
 unfolding each? linearization?
-all-legal? h lists = each? (linearization? h) lists
+all-legal? object h lists = each? (linearization? object h) lists
 
-none-legal? : (h : History) (lists : List (List ℕ)) → Dec (NoneLegal h lists)
+none-legal? : (object : Object) (h : History) (lists : List (List ℕ)) → Dec (NoneLegal object h lists)
 unfolding each? linearization? Dec·not
-none-legal? h lists = each? (λ listed. Dec·not (linearization? h listed)) lists
+none-legal? object h lists = each? (λ listed. Dec·not (linearization? object h listed)) lists
 
 -- the history of a row's run, and what its log is read as; to unfold the two is to unfold all that computes them
 unfoldable pub history : {A : Type 0} → Row A → History
@@ -49,10 +50,36 @@ rows-hold {A} {Right} right? rows read right = go rows read (decide-iff (each? (
     go [] read right = tt
     go (row ∷ rows) read right = (record { read = cc; right = right .0 }, go rows (cc) (right .1))
 
-pub linearizations-hold : Each (Holds AllLegal) linearizations
+pub linearizations-hold : Each (Holds (AllLegal Queue)) linearizations
 unfolding decide each? all-legal? history reading
-linearizations-hold = rows-hold all-legal? linearizations refl refl
+linearizations-hold = rows-hold (all-legal? Queue) linearizations refl refl
 
-pub no-linearizations-hold : Each (Holds NoneLegal) noLinearizations
+pub no-linearizations-hold : Each (Holds (NoneLegal Queue)) noLinearizations
 unfolding decide each? none-legal? history reading
-no-linearizations-hold = rows-hold none-legal? noLinearizations refl refl
+no-linearizations-hold = rows-hold (none-legal? Queue) noLinearizations refl refl
+
+-- the same without reading a log
+pub rows-fit : {A : Type 0} {Right : History → A → Type 0} (right? : (h : History) (says : A) → Dec (Right h says)) (rows : List (Row A))
+    → decide (each? (λ row. right? (history row) (row .says)) rows) ≡ true → Each (Fits Right) rows
+unfolding history
+rows-fit {A} {Right} right? rows right = go rows (decide-iff (each? (λ row. right? (history row) (row .says)) rows) .0 right)
+  where
+    go : (rows : List (Row A)) → Each (λ row. Right (history row) (row .says)) rows → Each (Fits Right) rows
+    go [] right = tt
+    go (row ∷ rows) right = (record { right = right .0 }, go rows (right .1))
+
+pub open-linearizations-fit : Each (Fits (AllLegal Queue)) openLinearizations
+unfolding decide each? all-legal? history
+open-linearizations-fit = rows-fit (all-legal? Queue) openLinearizations refl
+
+pub no-open-linearizations-fit : Each (Fits (NoneLegal Queue)) noOpenLinearizations
+unfolding decide each? none-legal? history
+no-open-linearizations-fit = rows-fit (none-legal? Queue) noOpenLinearizations refl
+
+pub cell-linearizations-fit : Each (Fits (AllLegal Cell)) cellLinearizations
+unfolding decide each? all-legal? history
+cell-linearizations-fit = rows-fit (all-legal? Cell) cellLinearizations refl
+
+pub no-cell-linearizations-fit : Each (Fits (NoneLegal Cell)) noCellLinearizations
+unfolding decide each? none-legal? history
+no-cell-linearizations-fit = rows-fit (none-legal? Cell) noCellLinearizations refl

@@ -1,9 +1,10 @@
 -- A history: all that is known of a run above the log. Its operations are numbered from 0 on, and time is positions: numbers
 -- that grow with it.
-use Prim.Native.Nat.{ℕ, _≤_, _<_}
+use Prim.Native.Nat.{ℕ, _+_, _≤_, _<_}
 use mathlib.Core.Path.{_≡_}
+use Rattle.history.specs.Object.{Object, Queue, Cell}
 
--- the kinds of an operation: an add, a remove that came back with a value, a remove that came back empty
+-- the kinds of an operation of a queue: an add, a remove that came back with a value, a remove that came back empty
 abbrev pub add : ℕ
 add = 1
 
@@ -13,7 +14,17 @@ remove = 2
 abbrev pub emptyRemove : ℕ
 emptyRemove = 3
 
--- what has no kind is in no legal order
+-- the same kinds of an operation of a cell
+abbrev pub write : ℕ
+write = add
+
+abbrev pub read : ℕ
+read = remove
+
+abbrev pub initialRead : ℕ
+initialRead = emptyRemove
+
+-- what has no kind: a remove or a read that has not returned, so that nothing is known of what it did
 abbrev pub noKind : ℕ
 noKind = 0
 
@@ -38,15 +49,31 @@ Precedes h o p = h .ret o < h .call p
 
 -- What holds of the history of every readable log, for any positions that have the laws of proofs/Positions.antt.
 pub record Lawful (h : History) : Type 0 where
-  pub kinds : (o : ℕ) → o < h .count → (add ≤ h .kind o) × (h .kind o ≤ emptyRemove)
+  pub kinds : (o : ℕ) → o < h .count → h .kind o ≤ emptyRemove
   -- an operation is called before it returns
   pub spans : (o : ℕ) → o < h .count → h .call o < h .ret o
   pub ends : (o : ℕ) → o < h .count → h .ret o ≤ h .end
-  -- only adds are pending
-  pub returned : (o : ℕ) → o < h .count → (h .kind o ≡ add → ⊥) → Returned h o
+  -- removes with a value and empty removes have returned, and what has no kind has not
+  pub returned : (o : ℕ) → o < h .count → add < h .kind o → Returned h o
+  pub unreturned : (o : ℕ) → o < h .count → h .kind o ≡ noKind → Returned h o → ⊥
   -- no return and call stand at the same position
   pub apart : (o p : ℕ) → o < h .count → p < h .count → h .ret o ≡ h .call p → ⊥
   -- "Operations are numbered from 0 in the order of their call records."
   pub numbered : (o p : ℕ) → o < p → p < h .count → h .call o < h .call p
   -- no value is added twice
   pub once : (a b : ℕ) → a < h .count → b < h .count → h .kind a ≡ add → h .kind b ≡ add → h .value a ≡ h .value b → a ≡ b
+
+-- No remove or read is pending.
+abbrev pub RemovesReturned : History → Type 0
+RemovesReturned h = (o : ℕ) → o < h .count → add ≤ h .kind o
+
+-- What is asked of a queue's history besides: at most one remove has not returned, and if there is one, the last position is
+-- spare, behind every call, so that it could return there.
+pub record Lone (h : History) : Type 0 where
+  pub one : (o p : ℕ) → o < h .count → p < h .count → h .kind o ≡ noKind → h .kind p ≡ noKind → o ≡ p
+  pub spare : (o p : ℕ) → o < h .count → p < h .count → h .kind o ≡ noKind → h .call p + 1 < h .end
+
+-- The same for either object: any number of reads of a cell may not have returned.
+abbrev pub LoneIn : Object → History → Type 0
+LoneIn Queue h = Lone h
+LoneIn Cell h = Unit {0}

@@ -1,4 +1,7 @@
+pub mod Object
 pub mod History
+pub mod RunFrom
+pub mod Register
 pub mod Linearization
 pub mod Operations
 pub mod Sheet

@@ -11,6 +11,7 @@ use Rattle.record.specs.declared.record.Record.{Record}
 use Rattle.reader.specs.Log.{readable, readLog, encodeLog}
 use Rattle.history.specs.Each.{Each}
 use Rattle.history.specs.History.{History}
+use Rattle.history.specs.Object.{Object, Cell}
 use Rattle.history.specs.Linearization.{Linearization}
 use Rattle.history.specs.Operations.{historyOf}
 
@@ -36,9 +37,13 @@ pub record Holds {A : Type 0} (Right : History → A → Type 0) (row : Row A) :
   pub read : readLog (encodeLog (recordsOf (row .run))) ≡ readable (recordsOf (row .run))
   pub right : Right (historyOf (recordsOf (row .run))) (row .says)
 
+-- What the row says is right for the history of the run's records. (No log is read as a run with a remove that does not return.)
+pub record Fits {A : Type 0} (Right : History → A → Type 0) (row : Row A) : Type 0 where
+  pub right : Right (historyOf (recordsOf (row .run))) (row .says)
+
 -- All of the lists are legal orders of a history.
-abbrev pub AllLegal : History → List (List ℕ) → Type 0
-AllLegal h lists = Each (Linearization h) lists
+abbrev pub AllLegal : Object → History → List (List ℕ) → Type 0
+AllLegal object h lists = Each (Linearization object h) lists
 
 abbrev pub linearizations : List (Row (List (List ℕ)))
 linearizations =
@@ -49,8 +54,8 @@ linearizations =
     []
 
 -- None of the lists is a legal order of a history.
-abbrev pub NoneLegal : History → List (List ℕ) → Type 0
-NoneLegal h lists = Each (λ listed. Linearization h listed → ⊥) lists
+abbrev pub NoneLegal : Object → History → List (List ℕ) → Type 0
+NoneLegal object h lists = Each (λ listed. Linearization object h listed → ⊥) lists
 
 abbrev pub noLinearizations : List (Row (List (List ℕ)))
 noLinearizations =
@@ -70,4 +75,47 @@ noLinearizations =
     record { run = (0, CallAdd 1) ∷ (1, CallAdd 2) ∷ (0, ReturnAdd) ∷ (1, ReturnAdd) ∷ (2, CallRemove) ∷ (2, ReturnRemove (Value 2)) ∷ []; says = (0 ∷ 1 ∷ 2 ∷ []) ∷ [] } ∷
     -- A3( A1( A1) A2( A2) A3): the add of 1 precedes the add of 2, also where the add of 3 stands between them
     record { run = (0, CallAdd 3) ∷ (1, CallAdd 1) ∷ (1, ReturnAdd) ∷ (2, CallAdd 2) ∷ (2, ReturnAdd) ∷ (0, ReturnAdd) ∷ []; says = (2 ∷ 0 ∷ 1 ∷ []) ∷ [] } ∷
+    []
+
+-- The same with a remove that does not return: it may be left out or stand once, where it takes the front or changes nothing.
+abbrev pub openLinearizations : List (Row (List (List ℕ)))
+openLinearizations =
+    -- A7( R(
+    record { run = (0, CallAdd 7) ∷ (1, CallRemove) ∷ []; says = [] ∷ (0 ∷ []) ∷ (1 ∷ []) ∷ (0 ∷ 1 ∷ []) ∷ (1 ∷ 0 ∷ []) ∷ [] } ∷
+    -- A1( A1) A2( A2) Ra( R( R2): Ra takes 1
+    record { run = (0, CallAdd 1) ∷ (0, ReturnAdd) ∷ (1, CallAdd 2) ∷ (1, ReturnAdd) ∷ (2, CallRemove) ∷ (3, CallRemove) ∷ (3, ReturnRemove (Value 2)) ∷ []; says = (0 ∷ 1 ∷ 2 ∷ 3 ∷ []) ∷ [] } ∷
+    []
+
+abbrev pub noOpenLinearizations : List (Row (List (List ℕ)))
+noOpenLinearizations =
+    -- A1( A1) A2( A2) Ra( R( R2): Ra is left out, or takes 2; it stands twice; the first add precedes it
+    record {
+      run = (0, CallAdd 1) ∷ (0, ReturnAdd) ∷ (1, CallAdd 2) ∷ (1, ReturnAdd) ∷ (2, CallRemove) ∷ (3, CallRemove) ∷ (3, ReturnRemove (Value 2)) ∷ [];
+      says = (0 ∷ 1 ∷ 3 ∷ []) ∷ (0 ∷ 1 ∷ 2 ∷ 2 ∷ 3 ∷ []) ∷ (2 ∷ 0 ∷ 1 ∷ 3 ∷ []) ∷ [];
+    } ∷
+    -- A7( A7) Ra( R( R7): Ra stands before R and takes 7, which R cannot take then
+    record { run = (0, CallAdd 7) ∷ (0, ReturnAdd) ∷ (1, CallRemove) ∷ (2, CallRemove) ∷ (2, ReturnRemove (Value 7)) ∷ []; says = (0 ∷ 1 ∷ 2 ∷ []) ∷ [] } ∷
+    []
+
+-- Of a cell: W7( is written as A7(.
+abbrev pub cellLinearizations : List (Row (List (List ℕ)))
+cellLinearizations =
+    -- W7( R( R7) Rb( Rb7): two reads of one write, which may have returned or not
+    record { run = (0, CallAdd 7) ∷ (1, CallRemove) ∷ (1, ReturnRemove (Value 7)) ∷ (2, CallRemove) ∷ (2, ReturnRemove (Value 7)) ∷ []; says = (0 ∷ 1 ∷ 2 ∷ []) ∷ [] } ∷
+    -- W1( R( R-) W1): the read comes first
+    record { run = (0, CallAdd 1) ∷ (1, CallRemove) ∷ (1, ReturnRemove Empty) ∷ (0, ReturnAdd) ∷ []; says = (1 ∷ 0 ∷ []) ∷ [] } ∷
+    -- R(: a read that does not return is in no order
+    record { run = (0, CallRemove) ∷ []; says = [] ∷ [] } ∷
+    []
+
+abbrev pub noCellLinearizations : List (Row (List (List ℕ)))
+noCellLinearizations =
+    -- W1( W2( W1) W2) R( R1): the latest write is 2
+    record { run = (0, CallAdd 1) ∷ (1, CallAdd 2) ∷ (0, ReturnAdd) ∷ (1, ReturnAdd) ∷ (2, CallRemove) ∷ (2, ReturnRemove (Value 1)) ∷ []; says = (0 ∷ 1 ∷ 2 ∷ []) ∷ [] } ∷
+    -- W1( R( R-): 1 is written before
+    record { run = (0, CallAdd 1) ∷ (1, CallRemove) ∷ (1, ReturnRemove Empty) ∷ []; says = (0 ∷ 1 ∷ []) ∷ [] } ∷
+    -- R( R0) W0(: nothing is written yet, not even 0
+    record { run = (0, CallRemove) ∷ (1, CallAdd 0) ∷ (0, ReturnRemove (Value 0)) ∷ []; says = (0 ∷ 1 ∷ []) ∷ (0 ∷ []) ∷ [] } ∷
+    -- R(: a read that does not return is in no order
+    record { run = (0, CallRemove) ∷ []; says = (0 ∷ []) ∷ [] } ∷
     []

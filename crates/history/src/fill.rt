@@ -16,6 +16,7 @@ use crate::operations::CALL;
 use crate::operations::EMPTY_REMOVE;
 use crate::operations::FIELDS;
 use crate::operations::KIND;
+use crate::operations::NO_KIND;
 use crate::operations::Operations;
 use crate::operations::REMOVE;
 use crate::operations::RETURN;
@@ -27,9 +28,6 @@ use record::record::Decoded;
 use record::record::Event;
 use record::record::Record;
 use record::record::Removed;
-
-// The kind of a remove until its return is read.
-const NO_KIND: u32 = 0;
 
 // What a remove is, by its return.
 pub struct Outcome {

@@ -15,6 +15,9 @@ pub const REMOVE: u32 = 2;
 
 pub const EMPTY_REMOVE: u32 = 3;
 
+// A remove that has not returned: nothing is known of it.
+pub const NO_KIND: u32 = 0;
+
 // The fields of an operation's entry, which starts at FIELDS times its number.
 pub const FIELDS: usize = 4;
 

@@ -11,14 +11,15 @@ use Rattle.reader.specs.Log.{readLog, checked}
 use Rattle.reader.specs.declared.log.Checked.{Checked}
 use Rattle.reader.specs.declared.log.Checked.the-variants as check
 use Rattle.reader.proofs.Laws.{readable-log, checked-refused}
+use Rattle.history.specs.Object.{Queue}
 use Rattle.history.specs.History.{History}
 use Rattle.history.specs.Sheet.{orderVerdict, sheetOf}
 use Rattle.history.specs.Table.{tabled}
 use Rattle.history.proofs.Agreeing.{agree-sym}
-use Rattle.history.proofs.Laws.{history-lawful}
+use Rattle.history.proofs.Laws.{history-returned, history-lawful}
 use Rattle.history.proofs.Sheets.{sheet-length}
 use Rattle.history.proofs.Tabulating.{Tabled}
-use Rattle.violations.proofs.Laws.{verdict-small, agree-lawful, agree-verdict, agree-found}
+use Rattle.violations.proofs.Laws.{complete-small, complete-is-verdict, agree-lawful, agree-complete-verdict, agree-found}
 use Rattle.matching.specs.Held.{Held}
 use Rattle.judge.specs.Decision.{Decided}
 use Rattle.judge.specs.Judge.{Delivers, Judges, judged, turned-down}
@@ -31,7 +32,7 @@ tabled-held {log} t = record { lawful = agree-lawful (agree-sym (t .agree)) (his
 
 -- a verdict has a byte
 pub decided-byte : {h : History} {byte k : ℕ} {list : List ℕ} → Decided h byte k list → byte < 256
-decided-byte decided = omega (arith, verdict-small (decided .verdict))
+decided-byte decided = omega (arith, complete-small (decided .verdict))
 
 -- what is found is delivered
 module _ (byte : ℕ) (list : List ℕ) (k : ℕ) (within : k ≤ length list) (sheet : List ℕ) where
@@ -57,7 +58,15 @@ module _ (byte : ℕ) (list : List ℕ) (k : ℕ) (within : k ≤ length list) (
 -- a readable log is judged
 pub log-judged : {log : List ℕ} {count end byte k : ℕ} {table list sheet sheet' : List ℕ} {answer : Verdict} → Tabled log count end table → Decided (tabled count end table) byte k list
     → Delivers byte (take k list) sheet answer sheet' → Judges (readLog log) sheet answer sheet'
-log-judged {byte = byte} {k = k} {list = list} t decided delivers = rw (t .reads) (judged (record { byte = byte; listed = take k list; verdict = agree-verdict (t .agree) (decided .verdict); chosen = λ e. agree-found (t .agree) (decided .chosen e); delivers = delivers }))
+log-judged {log} {byte = byte} {k = k} {list = list} t decided delivers = rw (t .reads) (judged (record {
+  byte = byte;
+  listed = take k list;
+  verdict =
+      complete-is-verdict Queue (history-returned (readable-log log (t .records) (t .reads)))
+      (agree-complete-verdict Queue (t .agree) (decided .verdict));
+  chosen = λ e. agree-found (t .agree) (decided .chosen e);
+  delivers = delivers;
+}))
 
 -- any other is refused
 pub log-refused : (log sheet : List ℕ) {answer : Checked} {number index : ℕ} → answer ≡ checked (readLog log) → answer ≡ check.Refused number index → Judges (readLog log) sheet (Refused number index) sheet

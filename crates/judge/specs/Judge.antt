@@ -9,6 +9,7 @@ use Rattle.record.specs.Choice.{if_then_else_}
 use Rattle.record.specs.declared.record.Record.{Record}
 use Rattle.buffer.specs.Buffer.{bufferTooShort, lacksRoom, written}
 use Rattle.reader.specs.Log.{Reading, readable, refused}
+use Rattle.history.specs.Object.{Queue}
 use Rattle.history.specs.Operations.{historyOf}
 use Rattle.history.specs.Sheet.{sheetHeader, orderVerdict, sheetOf}
 use Rattle.violations.specs.Verdict as violations
@@ -53,7 +54,7 @@ pub record Delivers (byte : ℕ) (listed sheet : List ℕ) (answer : Verdict) (s
 pub record Judgement (records : List Record) (sheet : List ℕ) (answer : Verdict) (sheet' : List ℕ) : Type 0 where
   pub byte : ℕ
   pub listed : List ℕ
-  pub verdict : violations.Verdict (historyOf records) byte listed
+  pub verdict : violations.Verdict Queue (historyOf records) byte listed
   pub chosen : byte ≡ orderVerdict → Found (historyOf records) listed
   pub delivers : Delivers byte listed sheet answer sheet'
 

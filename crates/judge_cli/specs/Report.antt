@@ -7,6 +7,7 @@ use lib.Dec.{eqb}
 use Rattle.record.specs.Choice.{if_then_else_}
 use Rattle.record.specs.declared.record.Record.{Record}
 use Rattle.reader.specs.Log.{Reading, readable, refused, operations}
+use Rattle.history.specs.Object.{Queue}
 use Rattle.history.specs.Operations.{historyOf}
 use Rattle.history.specs.Sheet.{orderVerdict}
 use Rattle.violations.specs.Verdict.{Verdict}
@@ -36,7 +37,7 @@ refusalLine number index = line (ascii "refused") (decimal number ∷ decimal in
 pub record JudgedReport (records : List Record) (text : List ℕ) : Type 0 where
   pub byte : ℕ
   pub listed : List ℕ
-  pub verdict : Verdict (historyOf records) byte listed
+  pub verdict : Verdict Queue (historyOf records) byte listed
   pub chosen : byte ≡ orderVerdict → Found (historyOf records) listed
   pub lines : text ≡ countsLine (length records) (operations records) ++ verdictLine byte listed
 

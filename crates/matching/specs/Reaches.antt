@@ -6,7 +6,7 @@ use lib.ListN.{length, getD}
 use lib.Dec.{eqb}
 use Rattle.record.specs.Choice.{if_then_else_}
 use Rattle.reader.specs.Log.{maxRecords}
-use Rattle.history.specs.History.{History, add}
+use Rattle.history.specs.History.{History, add, noKind}
 use Rattle.history.specs.Table.{callAt}
 use Rattle.violations.specs.Violations.{Is, Reaches}
 use Rattle.matching.specs.Matching.{partnerAt}
@@ -28,3 +28,5 @@ pub record Reaching (h : History) (reach : List ℕ) : Type 0 where
   pub reaches : (a : ℕ) → Is h add a → Reaches h a (reachAt reach a)
   -- no value reaches to two places, since none is removed twice
   pub only : (a far : ℕ) → Is h add a → Reaches h a far → far ≡ reachAt reach a
+  -- what has no kind has no value that is removed
+  pub idle : (o : ℕ) → Is h noKind o → reachAt reach o ≡ h .end

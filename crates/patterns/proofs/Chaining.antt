@@ -64,7 +64,7 @@ module _ {h : History} {e gap listed : ℕ} {list : List ℕ} (linked : Linked h
   module _ (before : gap < h .ret e) where
     -- an empty remove has returned, so it has fewer gaps than the list has places
     room-left : Held h → Is h emptyRemove e → listed < maxRecords
-    room-left held is = omega (arith, linked .few, held .lawful .returned e (is .known) (λ k. omega (arith, is .kinds)), held .short)
+    room-left held is = omega (arith, linked .few, held .lawful .returned e (is .known) (omega (arith, is .kinds)), held .short)
 
     -- that number is the next link
     linked-more : {far : ℕ} → listed < maxRecords → Furthest h (getD list listed 0) far gap → Linked h e far (listed + 1) list

@@ -10,6 +10,7 @@ use lib.Seq.{sets, length-sets, sets-eq, take-append-seam}
 use Rattle.record.specs.Choice.{if_then_else_}
 use Rattle.reader.specs.Log.{maxRecords}
 use Rattle.reader.proofs.Search.{None}
+use Rattle.history.specs.Object.{Queue}
 use Rattle.history.specs.History.{History}
 use Rattle.history.specs.Table.{tabled}
 use Rattle.violations.specs.Violations.{NoViolation}
@@ -34,7 +35,8 @@ listed-first : (listed list : List ℕ) → length listed ≤ length list → ta
 listed-first listed list fits = rw (sets-eq listed list 0 (omega arith)) (take-append-seam listed _)
 
 -- a pattern whose operations are stored there is listed
-listed-there : {h : History} {byte : ℕ} (listed list : List ℕ) → length list ≡ maxRecords → length listed ≤ maxRecords → FirstViolation h byte listed → PatternListed h byte (length listed) (sets list 0 listed)
+listed-there : {h : History} {byte : ℕ} (listed list : List ℕ) → length list ≡ maxRecords → length listed ≤ maxRecords
+    → FirstViolation Queue h byte listed → PatternListed h byte (length listed) (sets list 0 listed)
 listed-there listed list sized few first = record {
   sized = length-sets list 0 listed ∙ sized;
   within = few;
@@ -46,7 +48,8 @@ module _ {count end : ℕ} {table partner : List ℕ} (held : Held (tabled count
   abbrev h : History
   h = tabled count end table
 
-  signed : {byte : ℕ} (listed : List ℕ) → 0 < byte → length listed ≤ maxRecords → FirstViolation h byte listed → Signed h table partner byte (length listed) (sets list 0 listed)
+  signed : {byte : ℕ} (listed : List ℕ) → 0 < byte → length listed ≤ maxRecords → FirstViolation Queue h byte listed
+      → Signed h table partner byte (length listed) (sets list 0 listed)
   signed listed some few first = record { sized = length-sets list 0 listed ∙ sized; found = λ l. listed-there listed list sized few first; none = λ e. absurd (omega arith) }
 
   pub signed-unknown : {r : ℕ} → First (Shows table partner 1) count r → r < count → Signed h table partner 1 1 (sets list 0 (r ∷ []))
@@ -97,7 +100,8 @@ module _ {count end : ℕ} {table partner : List ℕ} (held : Held (tabled count
     pub paired-none : (list : List ℕ) → length list ≡ maxRecords → {pattern a : ℕ} → First (Blocking table count partner reach pattern) count a → count ≤ a → Paired (tabled count end table) table partner reach pattern 0 list
     paired-none list sized first l = record { sized = sized; found = λ some. absurd (omega arith); none = λ e. none-found first (omega (arith, first .within)) }
 
-    paired : (list : List ℕ) → length list ≡ maxRecords → {pattern : ℕ} (listed : List ℕ) → 0 < length listed → length listed ≤ maxRecords → FirstViolation (tabled count end table) pattern listed
+    paired : (list : List ℕ) → length list ≡ maxRecords → {pattern : ℕ} (listed : List ℕ) → 0 < length listed → length listed ≤ maxRecords
+        → FirstViolation Queue (tabled count end table) pattern listed
         → Paired (tabled count end table) table partner reach pattern (length listed) (sets list 0 listed)
     paired list sized listed some few first = record { sized = length-sets list 0 listed ∙ sized; found = λ l. listed-there listed list sized few first; none = λ e. absurd (omega arith) }
 
@@ -130,7 +134,8 @@ module _ {count end : ℕ} {table partner : List ℕ} (held : Held (tabled count
         (below, blocked .holds below .removed)
 
     -- Pattern 6, where nothing else is left.
-    pub listed-last : {k : ℕ} {list : List ℕ} → None (Blocking table count partner reach 4) count → None (Blocking table count partner reach 5) count → (NoViolation (tabled count end table) → ⊥)
+    pub listed-last : {k : ℕ} {list : List ℕ} → None (Blocking table count partner reach 4) count → None (Blocking table count partner reach 5) count
+        → (NoViolation Queue (tabled count end table) → ⊥)
         → FirstChained (tabled count end table) k list → PatternListed (tabled count end table) 6 k list
     listed-last {k} stuck overtaken some first =
         let clean = pairs-ruled-out held partners right clean-three stuck overtaken in

@@ -6,6 +6,7 @@ use mathlib.Core.Path.{_≡_, refl}
 use mathlib.Core.List.{List, [], _∷_}
 use borrow.Author.Tests.{eq-eqb, ne-eqb}
 use Rattle.reader.proofs.Search.{None}
+use Rattle.history.specs.Object.{Queue}
 use Rattle.history.specs.History.{History, add, Precedes}
 use Rattle.history.specs.Table.{tabled}
 use Rattle.violations.specs.Violations.{Is, RemoveOf, Stuck, Overtaken, removed, never, Occurs, unknown, twice, early, stuck, overtaken, falseEmpty}
@@ -39,7 +40,7 @@ record Pair (table : List ℕ) (count : ℕ) (partner reach : List ℕ) (pattern
   lists : listed ≡ first ∷ second ∷ rest first second
 
 module _ {count end : ℕ} {table partner reach : List ℕ} (held : Held (tabled count end table)) (partners : Partners table count partner) (right : Reaching (tabled count end table) reach)
-    (clean : (n : ℕ) (listed : List ℕ) → n < 4 → Occurs (tabled count end table) n listed → ⊥) where
+    (clean : (n : ℕ) (listed : List ℕ) → n < 4 → Occurs Queue (tabled count end table) n listed → ⊥) where
   abbrev h : History
   h = tabled count end table
 
@@ -67,7 +68,7 @@ module _ {count end : ℕ} {table partner reach : List ℕ} (held : Held (tabled
       there = record { adds = adds' .kinds; removed = omega (arith, remover-latest held partners adds' out); before = before; early = rw (← (remove-is adds' out)) l }
 
   -- Pattern 4: the value of the first add is there until the end.
-  stuck-shown : (listed : List ℕ) → Occurs h 4 listed → Shown 4 stuckRest listed
+  stuck-shown : (listed : List ℕ) → Occurs Queue h 4 listed → Shown 4 stuckRest listed
   stuck-shown _ (stuck {a = a} t) =
       pair-shown (t .first) (t .second) (t .before) (t .removes)
       (omega (arith, is-returned (held .lawful) (t .removes .removes) (omega arith), right .only a end (t .first) (never (t .never) refl)))
@@ -88,7 +89,7 @@ module _ {count end : ℕ} {table partner reach : List ℕ} (held : Held (tabled
       go (no none) = omega arith
 
   -- Pattern 5: the value of the first add is there until its remove is called.
-  overtaken-shown : (listed : List ℕ) → Occurs h 5 listed → Shown 5 overtakenRest listed
+  overtaken-shown : (listed : List ℕ) → Occurs Queue h 5 listed → Shown 5 overtakenRest listed
   overtaken-shown _ (overtaken {a = a} {s = s} t) =
       pair-shown (t .first) (t .second) (t .added-before) (t .removes)
       (omega (arith, t .overtakes, right .only a (h .call s) (t .first) (removed s (t .removes-late) refl)))
@@ -113,7 +114,7 @@ module _ {count end : ℕ} {table partner reach : List ℕ} (held : Held (tabled
 
   -- Below k, one of 4 to 6, no pattern occurs if no add shows one.
   below-ruled-out : (k : ℕ) → k < 7 → (4 < k → None (Blocking table count partner reach 4) count) → (5 < k → None (Blocking table count partner reach 5) count)
-      → (n : ℕ) (listed : List ℕ) → n < k → Occurs h n listed → ⊥
+      → (n : ℕ) (listed : List ℕ) → n < k → Occurs Queue h n listed → ⊥
   below-ruled-out k small unstuck in-turn _ _ l (unknown t) = clean 1 _ (omega arith) (unknown t)
   below-ruled-out k small unstuck in-turn _ _ l (twice t) = clean 2 _ (omega arith) (twice t)
   below-ruled-out k small unstuck in-turn _ _ l (early t) = clean 3 _ (omega arith) (early t)
@@ -122,11 +123,11 @@ module _ {count end : ℕ} {table partner reach : List ℕ} (held : Held (tabled
   below-ruled-out k small unstuck in-turn _ _ l (falseEmpty t) = omega arith
 
   -- The lowest pair that shows a pattern is the first violation, if no lower pattern occurs.
-  pair-first : {n : ℕ} {rest : ℕ → ℕ → List ℕ} → ((listed : List ℕ) → Occurs h n listed → Shown n rest listed)
-      → ((a b : ℕ) → Is h add a → Is h add b → patternBy partner a ≡ n → Blocks table partner reach a b → Occurs h n (a ∷ b ∷ rest a b))
-      → ((m : ℕ) (listed : List ℕ) → m < n → Occurs h m listed → ⊥)
+  pair-first : {n : ℕ} {rest : ℕ → ℕ → List ℕ} → ((listed : List ℕ) → Occurs Queue h n listed → Shown n rest listed)
+      → ((a b : ℕ) → Is h add a → Is h add b → patternBy partner a ≡ n → Blocks table partner reach a b → Occurs Queue h n (a ∷ b ∷ rest a b))
+      → ((m : ℕ) (listed : List ℕ) → m < n → Occurs Queue h m listed → ⊥)
       → {a b : ℕ} → First (Blocking table count partner reach n) count a → a < count → First (Blocks table partner reach a) count b
-      → (b < count) × FirstViolation h n (a ∷ b ∷ rest a b)
+      → (b < count) × FirstViolation Queue h n (a ∷ b ∷ rest a b)
   pair-first {n} {rest} shown occurs lower {a} {b} first l second = (
     below,
     record {
@@ -144,15 +145,16 @@ module _ {count end : ℕ} {table partner reach : List ℕ} (held : Held (tabled
 
   -- Pattern 4 is the first violation if an add shows it, 5 if an add shows it and none shows 4.
   pub stuck-first : {a b : ℕ} → First (Blocking table count partner reach 4) count a → a < count → First (Blocks table partner reach a) count b
-      → (b < count) × FirstViolation h 4 (a ∷ b ∷ (partnerAt partner b - 1) ∷ [])
+      → (b < count) × FirstViolation Queue h 4 (a ∷ b ∷ (partnerAt partner b - 1) ∷ [])
   stuck-first = pair-first stuck-shown (λ a b first second is there. stuck (blocks-stuck a b first second is there)) clean
 
   pub overtaken-first : None (Blocking table count partner reach 4) count → {a b : ℕ} → First (Blocking table count partner reach 5) count a → a < count → First (Blocks table partner reach a) count b
-      → (b < count) × FirstViolation h 5 (a ∷ b ∷ (partnerAt partner b - 1) ∷ (partnerAt partner a - 1) ∷ [])
+      → (b < count) × FirstViolation Queue h 5 (a ∷ b ∷ (partnerAt partner b - 1) ∷ (partnerAt partner a - 1) ∷ [])
   overtaken-first unstuck =
       pair-first overtaken-shown (λ a b first second is there. overtaken (blocks-overtaken a b first second is there))
       (below-ruled-out 5 (omega arith) (λ m. unstuck) (λ m. absurd (omega arith)))
 
   -- The patterns 1 to 5 do not occur if no add shows 4 or 5.
-  pub pairs-ruled-out : None (Blocking table count partner reach 4) count → None (Blocking table count partner reach 5) count → (n : ℕ) (listed : List ℕ) → n < 6 → Occurs h n listed → ⊥
+  pub pairs-ruled-out : None (Blocking table count partner reach 4) count → None (Blocking table count partner reach 5) count
+      → (n : ℕ) (listed : List ℕ) → n < 6 → Occurs Queue h n listed → ⊥
   pairs-ruled-out unstuck in-turn = below-ruled-out 6 (omega arith) (λ m. unstuck) (λ m. in-turn)

@@ -7,6 +7,7 @@ use mathlib.Core.Path.{_≡_, refl, sym, ap, _∙_}
 use mathlib.Core.List.{List, [], _∷_}
 use borrow.Author.Tests.{eq-eqb, ne-eqb}
 use Rattle.reader.proofs.Search.{None}
+use Rattle.history.specs.Object.{Queue}
 use Rattle.history.specs.History.{History, add, remove}
 use Rattle.history.specs.Table.{callAt, tabled}
 use Rattle.violations.specs.Violations.{Is, RemoveOf, Unknown, Twice, Early, Reaches, removed, never, Occurs}
@@ -49,14 +50,14 @@ module _ {count end : ℕ} {table partner : List ℕ} (held : Held (tabled count
   shows-unknown l (Shows.early e removes some before) = absurd (omega arith)
 
   -- The lowest remove that shows it is the first violation.
-  pub unknown-first : {r : ℕ} → First (Shows table partner 1) count r → r < count → FirstViolation h 1 (r ∷ [])
+  pub unknown-first : {r : ℕ} → First (Shows table partner 1) count r → r < count → FirstViolation Queue h 1 (r ∷ [])
   unknown-first {r} first l = record {
     occurs = Occurs.unknown (shows-unknown l (first .holds l));
     lowest-number = λ n other less there. omega (arith, occurs-numbered there);
     lowest-list = lowest;
   }
     where
-      lowest : (other : List ℕ) → Occurs h 1 other → Lower other (r ∷ []) → ⊥
+      lowest : (other : List ℕ) → Occurs Queue h 1 other → Lower other (r ∷ []) → ⊥
       lowest _ (Occurs.unknown u) = not-lower (first-not-above first (unknown-shows u)) (λ e lower. lower-differs lower refl)
 
   -- where no remove shows pattern 1, each has a partner
@@ -125,7 +126,7 @@ module _ {count end : ℕ} {table partner : List ℕ} (held : Held (tabled count
 
   -- Below k, one of 1 to 4, no pattern occurs if no remove shows one.
   below-ruled-out : (k : ℕ) → k < 5 → (1 < k → None (Shows table partner 1) count) → (2 < k → None (Shows table partner 2) count) → (3 < k → None (Shows table partner 3) count)
-      → (n : ℕ) (listed : List ℕ) → n < k → Occurs h n listed → ⊥
+      → (n : ℕ) (listed : List ℕ) → n < k → Occurs Queue h n listed → ⊥
   below-ruled-out k small known once timely _ _ l (Occurs.unknown {r = r} u) = known l r (u .removes .known) (unknown-shows u)
   below-ruled-out k small known once timely _ _ l (Occurs.twice {r = r} t) = once l r (t .first .known) (twice-shows (known (omega arith)) t .0)
   below-ruled-out k small known once timely _ _ l (Occurs.early {r = r} t) = timely l r (t .removes .removes .known) (early-shows t .0)
@@ -135,7 +136,7 @@ module _ {count end : ℕ} {table partner : List ℕ} (held : Held (tabled count
 
   -- The lowest remove that shows pattern 2, with the lowest above it that has the same partner, is the first violation if pattern 1 is not shown.
   pub twice-first : None (Shows table partner 1) count → {r s : ℕ} → First (Shows table partner 2) count r → r < count → First (Again table partner r) count s
-      → (s < count) × FirstViolation h 2 (r ∷ s ∷ [])
+      → (s < count) × FirstViolation Queue h 2 (r ∷ s ∷ [])
   twice-first known {r} {s} first l again = (
     below,
     record {
@@ -151,28 +152,28 @@ module _ {count end : ℕ} {table partner : List ℕ} (held : Held (tabled count
       below : s < count
       below = let (later, known, there) = latest-again l (first .holds l) in omega (arith, first-not-above again there)
 
-      lowest : (other : List ℕ) → Occurs h 2 other → Lower other (r ∷ s ∷ []) → ⊥
+      lowest : (other : List ℕ) → Occurs Queue h 2 other → Lower other (r ∷ s ∷ []) → ⊥
       lowest _ (Occurs.twice t) =
           let (shows, there) = twice-shows known t in
           not-lower (first-not-above first shows) (λ e. not-lower (first-not-above again (rw e at there)) (λ e' lower. lower-differs lower refl))
 
   -- The lowest remove that shows pattern 3, with its partner, is the first violation if 1 and 2 are not shown.
   pub early-first : None (Shows table partner 1) count → None (Shows table partner 2) count → {r : ℕ} → First (Shows table partner 3) count r → r < count
-      → FirstViolation h 3 (r ∷ (partnerAt partner r - 1) ∷ [])
+      → FirstViolation Queue h 3 (r ∷ (partnerAt partner r - 1) ∷ [])
   early-first known once {r} first l = record {
     occurs = Occurs.early (shows-early l (first .holds l));
     lowest-number = below-ruled-out 3 (omega arith) (λ m. known) (λ m. once) (λ m. absurd (omega arith));
     lowest-list = lowest;
   }
     where
-      lowest : (other : List ℕ) → Occurs h 3 other → Lower other (r ∷ (partnerAt partner r - 1) ∷ []) → ⊥
+      lowest : (other : List ℕ) → Occurs Queue h 3 other → Lower other (r ∷ (partnerAt partner r - 1) ∷ []) → ⊥
       lowest _ (Occurs.early {a = a} t) =
           let (shows, here) = early-shows t in
           not-lower (first-not-above first shows) (λ e. not-lower (omega (arith, ap (λ x. partnerAt partner x - 1) e)) (λ e' lower. lower-differs lower refl))
 
   -- The patterns 1 to 3 do not occur if they are not shown.
   pub three-ruled-out : None (Shows table partner 1) count → None (Shows table partner 2) count → None (Shows table partner 3) count
-      → (n : ℕ) (listed : List ℕ) → n < 4 → Occurs h n listed → ⊥
+      → (n : ℕ) (listed : List ℕ) → n < 4 → Occurs Queue h n listed → ⊥
   three-ruled-out known once timely = below-ruled-out 4 (omega arith) (λ m. known) (λ m. once) (λ m. timely)
 
   -- Where patterns 1 and 2 are not shown, no value is removed twice, and the table of reaches is right.
@@ -180,7 +181,14 @@ module _ {count end : ℕ} {table partner : List ℕ} (held : Held (tabled count
   single known once = tables-match (λ a adds. reach-of h a .reaches) (below-ruled-out 3 (omega arith) (λ m. known) (λ m. once) (λ m. absurd (omega arith))) .single
 
   pub reaching : None (Shows table partner 1) count → None (Shows table partner 2) count → {reach : List ℕ} → ReachTable count end table partner reach → Reaching h reach
-  reaching known once {reach} is = record { sized = is .sized; reaches = λ a adds. reaches a adds (decLt 0 (partnerAt partner a)); only = only }
+  reaching known once {reach} is = record {
+    sized = is .sized;
+    reaches = λ a adds. reaches a adds (decLt 0 (partnerAt partner a));
+    only = only;
+    idle = λ o none.
+        let unmatched = partners .unmatched o (λ e. omega (arith, none .kinds)) (λ e. absurd (omega (arith, none .kinds))) in
+        is .reaches o (none .known) ∙ rw (eq-eqb _ _ unmatched) refl;
+  }
     where
       to-end : (a : ℕ) → Is h add a → partnerAt partner a ≡ 0 → end ≡ reachAt reach a
       to-end a adds e = sym (is .reaches a (adds .known) ∙ rw (eq-eqb _ _ e) refl)

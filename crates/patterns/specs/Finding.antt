@@ -6,6 +6,7 @@ use mathlib.Core.List.{List}
 use lib.ListN.{length, take}
 use Rattle.reader.specs.Log.{maxRecords}
 use Rattle.reader.proofs.Search.{None}
+use Rattle.history.specs.Object.{Queue}
 use Rattle.history.specs.History.{History}
 use Rattle.violations.specs.Violations.{Occurs}
 use Rattle.violations.specs.Verdict.{FirstViolation}
@@ -16,11 +17,11 @@ use Rattle.patterns.specs.Blocked.{Blocking}
 pub record PatternListed (h : History) (pattern k : ℕ) (list : List ℕ) : Type 0 where
   pub sized : length list ≡ maxRecords
   pub within : k ≤ maxRecords
-  pub first : FirstViolation h pattern (take k list)
+  pub first : FirstViolation Queue h pattern (take k list)
 
 -- No pattern below n occurs.
 abbrev pub Clean : History → ℕ → Type 0
-Clean h n = (m : ℕ) (listed : List ℕ) → m < n → Occurs h m listed → ⊥
+Clean h n = (m : ℕ) (listed : List ℕ) → m < n → Occurs Queue h m listed → ⊥
 
 -- No remove shows a pattern from 1 to 3.
 pub record Unsigned (table : List ℕ) (count : ℕ) (partner : List ℕ) : Type 0 where

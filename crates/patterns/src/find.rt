@@ -3,6 +3,7 @@
 ghost use mathlib.Core.Path.{_≡_};
 ghost use lib.ListN.{length};
 ghost use Rattle.reader.specs.Log.{maxRecords};
+ghost use Rattle.history.specs.Object.{Queue};
 ghost use Rattle.history.specs.Table.{tabled};
 ghost use Rattle.violations.specs.Violations.{NoViolation};
 ghost use Rattle.matching.specs.Held.{Held};
@@ -112,7 +113,7 @@ pub fn find_cause(
     reach: &Numbers,
     list: &mut Numbers,
 ) -> Finding
-    requires { ⌜ Held (tabled count end (now table)) × Partners (now table) count (now partner) × Unsigned (now table) count (now partner) × Reaching (tabled count end (now table)) (now reach) × (NoViolation (tabled count end (now table)) → ⊥) × (length (now list) ≡ maxRecords) ⌝ }
+    requires { ⌜ Held (tabled count end (now table)) × Partners (now table) count (now partner) × Unsigned (now table) count (now partner) × Reaching (tabled count end (now table)) (now reach) × (NoViolation Queue (tabled count end (now table)) → ⊥) × (length (now list) ≡ maxRecords) ⌝ }
     ensures { λ f. ⌜ PatternListed (tabled count end (now (table .entry))) (f .verdict) (f .listed) (now (list .exit)) ⌝ }
 {
     let stuck = find_pair(table, count, end, partner, reach, STUCK, list);

@@ -4,15 +4,16 @@ use native.Mathlib.Omega.{arith}
 use native.Mathlib.Numerals.{add-one}
 use mathlib.Core.Path.{_≡_, refl, sym, ap, _∙_}
 use mathlib.Core.Bool.{Bool, true, false}
+use mathlib.Core.Logic.{_⊎_, inl, inr}
 use mathlib.Core.List.{List, [], _∷_, _++_, append-nil}
 use lib.ListN.{length, getD, take}
 use lib.Dec.{eqb}
 use lib.Seq.{take-suc, take-all, length-take-le}
-use borrow.Author.Tests.{eq-eqb, ne-eqb}
+use borrow.Author.Tests.{ne-eqb}
 use Rattle.record.specs.Choice.{if_then_else_}
 use Rattle.reader.specs.Log.{maxRecords}
 use Rattle.table.specs.Table.{Pushed}
-use Rattle.history.specs.History.{History, emptyRemove}
+use Rattle.history.specs.History.{History, emptyRemove, noKind}
 use Rattle.history.specs.Table.{kindAt, valueAt}
 use Rattle.projection.specs.Projection.{valuesOf}
 use Rattle.projection.specs.Marks.{entriesOf}
@@ -28,26 +29,33 @@ pub record Collecting (table listed values : List ℕ) (count i : ℕ) : Type 0 
   -- they are the values of those operations
   pub holds : take count values ≡ valuesOf (entriesOf table) (take i listed)
 
--- an empty remove has no value, and any other operation has its own
+-- an operation of which nothing is known has no value, nor has an empty remove, and any other operation has its own
 module _ {table values : List ℕ} {o count : ℕ} where
-  pub value-none : length values ≡ maxRecords → kindAt table o ≡ emptyRemove → ValueAdded table o count values count values
+  pub value-none : length values ≡ maxRecords → (kindAt table o ≡ noKind) ⊎ (kindAt table o ≡ emptyRemove) → ValueAdded table o count values count values
   unfolding valuesOf
-  value-none sized k = record { few = omega arith; sized = sized; holds = rw (eq-eqb (kindAt table o) emptyRemove k) (sym (append-nil (take count values))) }
+  value-none sized valueless = record { few = omega arith; sized = sized; holds = rw (skipped valueless) (sym (append-nil (take count values))) }
+    where
+      skipped : (kindAt table o ≡ noKind) ⊎ (kindAt table o ≡ emptyRemove) → valuesOf (entriesOf table) (o ∷ []) ≡ []
+      skipped (inl k) = rw k refl
+      skipped (inr k) = rw k refl
 
-  pub value-own : {values' : List ℕ} → (kindAt table o ≡ emptyRemove → ⊥) → Pushed count (valueAt table o) values values' → ValueAdded table o count values (count + 1) values'
+  pub value-own : {values' : List ℕ} → (kindAt table o ≡ noKind → ⊥) → (kindAt table o ≡ emptyRemove → ⊥) → Pushed count (valueAt table o) values values'
+      → ValueAdded table o count values (count + 1) values'
   unfolding valuesOf
-  value-own k pushed = record { few = omega arith; sized = pushed .sized; holds = rw (ne-eqb (kindAt table o) emptyRemove k) (pushed .holds) }
+  value-own n k pushed = record { few = omega arith; sized = pushed .sized; holds = rw (ne-eqb _ _ n, ne-eqb _ _ k) (pushed .holds) }
 
 -- the values of operations and of those behind them
 values-append : (h : History) (os ps : List ℕ) → valuesOf h (os ++ ps) ≡ valuesOf h os ++ valuesOf h ps
 unfolding valuesOf
 values-append h [] ps = refl
-values-append h (o ∷ os) ps = go (eqb (h .kind o) emptyRemove) (values-append h os ps)
+values-append h (o ∷ os) ps = go (eqb (h .kind o) noKind) (eqb (h .kind o) emptyRemove) (values-append h os ps)
   where
-    go : (b : Bool) → valuesOf h (os ++ ps) ≡ valuesOf h os ++ valuesOf h ps
-        → (if b then valuesOf h (os ++ ps) else h .value o ∷ valuesOf h (os ++ ps)) ≡ (if b then valuesOf h os else h .value o ∷ valuesOf h os) ++ valuesOf h ps
-    go true e = e
-    go false e = ap (λ vs. h .value o ∷ vs) e
+    go : (none empty : Bool) → valuesOf h (os ++ ps) ≡ valuesOf h os ++ valuesOf h ps
+        → (if none then valuesOf h (os ++ ps) else if empty then valuesOf h (os ++ ps) else h .value o ∷ valuesOf h (os ++ ps))
+        ≡ (if none then valuesOf h os else if empty then valuesOf h os else h .value o ∷ valuesOf h os) ++ valuesOf h ps
+    go true empty e = e
+    go false true e = e
+    go false false e = ap (λ vs. h .value o ∷ vs) e
 
 pub collecting-starts : (table listed : List ℕ) {values : List ℕ} → length values ≡ maxRecords → Collecting table listed values 0 0
 unfolding valuesOf

@@ -11,6 +11,7 @@ use Rattle.reader.specs.Log.{maxRecords, refused, readLog, checked, encodeLog}
 use Rattle.reader.specs.declared.log.Checked.{Checked}
 use Rattle.reader.specs.declared.log.Checked.the-variants as check
 use Rattle.reader.proofs.Laws.{checked-refused}
+use Rattle.history.specs.Object.{Queue}
 use Rattle.history.specs.Each.{Each}
 use Rattle.history.specs.History.{History, Lawful}
 use Rattle.history.specs.Operations.{historyOf}
@@ -19,8 +20,8 @@ use Rattle.history.specs.Table.{tabled, Agree}
 use Rattle.history.proofs.Agreeing.{agree-sym}
 use Rattle.history.proofs.Laws.{history-lawful}
 use Rattle.violations.specs.Violations.{NoViolation}
-use Rattle.violations.specs.Verdict.{FirstViolation, Verdict}
-use Rattle.violations.proofs.Laws.{SomeViolation, first-violation, first-violation-one, occurs-known, excluded, zero-is-linearization, pattern-of, agree-lawful, agree-verdict}
+use Rattle.violations.specs.Verdict.{FirstViolation, CompleteVerdict}
+use Rattle.violations.proofs.Laws.{SomeViolation, first-violation, first-violation-one, occurs-known, excluded, judged-complete, complete-zero, complete-pattern, agree-lawful, agree-complete-verdict}
 use Rattle.matching.specs.Held.{Held}
 use Rattle.judge.specs.Decision.{Decided}
 use Rattle.projection.specs.Projection.{valuesOf, projection, excerpted}
@@ -72,22 +73,22 @@ module _ {log : List ℕ} {n m : ℕ} {table : List ℕ} (of : TableOf log n m t
     listed-length = sym (length-take-le k list (omega (arith, decided .within, decided .sized)))
 
     -- its verdict is right for the log's own history
-    judged : Verdict own verdict (take k list)
-    judged = agree-verdict (of .agree) (decided .verdict)
+    judged : CompleteVerdict Queue own verdict (take k list)
+    judged = agree-complete-verdict Queue (of .agree) (decided .verdict)
 
     -- the verdict is an order
     pub order-found : verdict ≡ orderVerdict → (out : List ℕ) → (Refused noPattern 0 ≡ excerptAnswer (readLog log) out) × (out ≡ excerptLeaves (readLog log) out)
-    order-found e out = rw (of .whole .reads) (go (first-violation own))
+    order-found e out = rw (of .whole .reads) (go (first-violation Queue own))
       where
-        go : (found : SomeViolation own ⊎ NoViolation own)
+        go : (found : SomeViolation Queue own ⊎ NoViolation Queue own)
             → (Refused noPattern 0 ≡ excerptAnswerOf (of .whole .records) found out) × (out ≡ excerptLeavesOf (of .whole .records) found out)
-        go (inl (number, listed, first)) = absurd (excluded lawful (zero-is-linearization judged e .legal) (first .occurs))
+        go (inl (number, listed, first)) = absurd (excluded lawful (judged-complete (complete-zero judged e)) (first .occurs))
         go (inr clean) = (refl, refl)
 
     -- the verdict is a pattern
     module _ (some : verdict ≡ orderVerdict → ⊥) where
-      pattern : FirstViolation own verdict (take k list)
-      pattern = pattern-of judged some
+      pattern : FirstViolation Queue own verdict (take k list)
+      pattern = complete-pattern judged some
 
       -- its operations are in the table
       listed-known : Each (λ o. o < m) (take k list)
@@ -99,15 +100,15 @@ module _ {log : List ℕ} {n m : ℕ} {table : List ℕ} (of : TableOf log n m t
       -- and the excerpt is made from them
       pub pattern-found : {out out' : List ℕ} {r : Projected} → Writes log (λ records. projection records (take k list) (valuesOf (entriesOf table) (take k list))) out r out'
           → (r ≡ excerptAnswer (readLog log) out) × (out' ≡ excerptLeaves (readLog log) out)
-      pattern-found {out} {out'} {r} writes = rw (of .whole .reads) (go (first-violation own))
+      pattern-found {out} {out'} {r} writes = rw (of .whole .reads) (go (first-violation Queue own))
         where
-          same : {number : ℕ} (listed : List ℕ) → FirstViolation own number listed
+          same : {number : ℕ} (listed : List ℕ) → FirstViolation Queue own number listed
               → projection (of .whole .records) (take k list) (valuesOf (entriesOf table) (take k list)) ≡ excerpted (of .whole .records) listed
           same listed first =
               rw (first-violation-one first pattern .1)
               (ap (projection (of .whole .records) (take k list)) (values-agree m n table own (of .agree) (take k list) listed-known))
 
-          go : (found : SomeViolation own ⊎ NoViolation own)
+          go : (found : SomeViolation Queue own ⊎ NoViolation Queue own)
               → (r ≡ excerptAnswerOf (of .whole .records) found out) × (out' ≡ excerptLeavesOf (of .whole .records) found out)
           go (inl (number, listed, first)) = (
             writes .answers (of .whole .records) (of .whole .reads) ∙ ap (λ records. writing (encodeLog records) out) (same listed first),

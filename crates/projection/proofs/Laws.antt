@@ -2,13 +2,13 @@
 -- and an excerpt is judged as the log was.
 use Prim.Native.Nat.{ℕ, _≤_, _<_}
 use native.Mathlib.Omega.{arith}
+use native.Mathlib.Decide.{ℕ-discrete}
 use mathlib.Core.Path.{_≡_, refl, sym, ap, _∙_}
 use mathlib.Core.Bool.{Bool, true, false}
 use mathlib.Core.Logic.{_⊎_, inl, inr}
 use mathlib.Core.List.{List, [], _∷_, _++_}
 use lib.ListN.{length, length-append}
-use lib.Dec.{eqb}
-use borrow.Author.Tests.{eqb-false}
+use borrow.Author.Tests.{ne-eqb}
 use Rattle.record.specs.Choice.{if_then_else_}
 use Rattle.record.specs.Number.{bytesOf, Bytes}
 use Rattle.record.specs.Record.{encode}
@@ -18,15 +18,17 @@ use Rattle.reader.specs.Log.{maxLength, encodeAll, readable, readLog, encodeLog
 use Rattle.table.specs.Table.{isIn}
 use Rattle.reader.specs.Readable.{ReadableLog, Orderly}
 use Rattle.reader.proofs.Laws.{readable-log, readable-orderly, orderly-readable}
-use Rattle.history.specs.History.{emptyRemove}
+use Rattle.history.specs.Object.{Queue}
+use Rattle.history.specs.History.{History, add, emptyRemove, noKind}
 use Rattle.history.specs.Each.{Each}
 use Rattle.history.specs.Operations.{callIndex, historyOf}
-use Rattle.history.proofs.Laws.{history-lawful}
+use Rattle.history.proofs.Laws.{history-lawful, history-returned}
+use Rattle.history.proofs.Queues.{returned-complete}
 use Rattle.history.specs.Linearization.{Linearization}
 use Rattle.violations.specs.Violations.{NoViolation}
 use Rattle.violations.specs.Verdict.{FirstViolation, Verdict}
 use Rattle.violations.specs.Parts.{HasValue, Part, Kept}
-use Rattle.violations.proofs.Laws.{SomeViolation, first-violation, first-violation-one, occurs-known, excluded, part-verdict}
+use Rattle.violations.proofs.Laws.{SomeViolation, first-violation, first-violation-one, occurs-kinded, excluded, part-verdict}
 use Rattle.projection.specs.Projection.{operationOf, keepRecords, valuesOf, keeps, projection, narrowed, excerpted}
 use Rattle.projection.specs.Outcome.{noPattern, writing, excerptAnswerOf, excerptLeavesOf, excerptAnswer, excerptLeaves}
 use Rattle.projection.specs.Marks as Marks
@@ -87,21 +89,28 @@ projection-only {records} empties values orderly q h =
     let (marked, same) = picked-only _ _ _ _ _ q h in
     (sym (keeps-call records empties values (projection-part empties values orderly .to q) (projection-part empties values orderly .known q h)) ∙ marked, same)
 
--- An excerpt keeps all operations that are listed.
-pub excerpt-keeps : {records : List Record} (listed : List ℕ) (orderly : Orderly records) → Each (λ o. o < operations records) listed
+-- An excerpt keeps all operations that are listed, if they have a kind.
+pub excerpt-keeps : {records : List Record} (listed : List ℕ) (orderly : Orderly records)
+    → Each (λ o. (o < historyOf records .count) × (add ≤ historyOf records .kind o)) listed
     → Each (Kept (projection-part listed (valuesOf (historyOf records) listed) orderly)) listed
-excerpt-keeps {records} listed orderly = each-in listed (λ o i h. projection-keeps listed (valuesOf (historyOf records) listed) orderly o h (keeps-listed (historyOf records) listed o i))
+excerpt-keeps {records} listed orderly =
+    each-in listed (λ o i k. projection-keeps listed (valuesOf (historyOf records) listed) orderly o (k .0) (keeps-listed (historyOf records) listed o (k .1) i))
 
 -- The excerpt of a log with a pattern is a readable log, and its verdict has the number of that pattern.
-pub excerpt-verdict : (log : List ℕ) (records : List Record) → readLog log ≡ readable records → Bytes log → {n : ℕ} {listed : List ℕ} → FirstViolation (historyOf records) n listed
-    → (readLog (encodeLog (excerpted records listed)) ≡ readable (excerpted records listed)) × ((m : ℕ) (ys : List ℕ) → Verdict (historyOf (excerpted records listed)) m ys → m ≡ n)
+pub excerpt-verdict : (log : List ℕ) (records : List Record) → readLog log ≡ readable records → Bytes log → {n : ℕ} {listed : List ℕ}
+    → FirstViolation Queue (historyOf records) n listed
+    → (readLog (encodeLog (excerpted records listed)) ≡ readable (excerpted records listed))
+    × ((m : ℕ) (ys : List ℕ) → Verdict Queue (historyOf (excerpted records listed)) m ys → m ≡ n)
 excerpt-verdict log records reads bytes {n} {listed} first =
     let read : ReadableLog log records = readable-log log records reads in
     let orderly : Orderly records = readable-orderly read bytes in
     let values : List ℕ = valuesOf (historyOf records) listed in
-    let kept : Orderly (excerpted records listed) = projection-orderly listed values orderly in (
+    let kept : Orderly (excerpted records listed) = projection-orderly listed values orderly in
+    let kept-read = orderly-log kept in
+    let part = projection-part listed values orderly in
+    let keeps = excerpt-keeps listed orderly (occurs-kinded (first .occurs)) in (
       orderly-readable (excerpted records listed) kept,
-      λ m ys verdict. sym (part-verdict (projection-part listed values orderly) (history-lawful read) (history-lawful (orderly-log kept)) first (excerpt-keeps listed orderly (occurs-known (first .occurs))) verdict),
+      λ m ys verdict. sym (part-verdict Queue part (history-lawful read) (history-lawful kept-read) (history-returned kept-read) first keeps verdict),
     )
 
 -- A log that is written out of a log is no longer than a log may be.
@@ -112,33 +121,50 @@ projection-short log records reads bytes empties values = orderly-log (projectio
 pub narrowed-readable : (log : List ℕ) (records : List Record) → readLog log ≡ readable records → Bytes log → (values : List ℕ) → readLog (encodeLog (narrowed records values)) ≡ readable (narrowed records values)
 narrowed-readable log records reads bytes values = orderly-readable (narrowed records values) (projection-orderly [] values (readable-orderly (readable-log log records reads) bytes))
 
--- "repeats in the list change nothing", nor do values that the log lacks: lists that hold the same of its values narrow a log to the same records. An empty
--- remove has no value.
+-- "repeats in the list change nothing", nor do values that the log lacks: lists that hold the same of its values narrow a log to the same records. An
+-- operation of which nothing is known has no value, nor has an empty remove.
 pub narrowed-alike : (log : List ℕ) (records : List Record) → readLog log ≡ readable records → (values others : List ℕ)
     → ((o : ℕ) → HasValue (historyOf records) o → isIn (historyOf records .value o) values ≡ isIn (historyOf records .value o) others) → narrowed records values ≡ narrowed records others
 narrowed-alike log records reads values others same =
     keep-same (keeps (historyOf records) [] values) (keeps (historyOf records) [] others) records
-    (λ i l. kept-alike (Marks.operationAt records i) (operation-known (readable-log log records reads) i l) (eqb (historyOf records .kind (Marks.operationAt records i)) emptyRemove) refl)
+    (λ i l. kept-alike (Marks.operationAt records i) (operation-known read i l))
   where
-    kept-alike : (o : ℕ) → o < operations records → (t : Bool) → eqb (historyOf records .kind o) emptyRemove ≡ t → keeps (historyOf records) [] values o ≡ keeps (historyOf records) [] others o
-    kept-alike o known true t = rw t refl
-    kept-alike o known false t = rw (t, same o (record { known = known; valued = eqb-false (historyOf records .kind o) emptyRemove t })) refl
+    h : History
+    h = historyOf records
+
+    read : ReadableLog log records
+    read = readable-log log records reads
+
+    kept-alike : (o : ℕ) → o < operations records → keeps h [] values o ≡ keeps h [] others o
+    kept-alike o known = by (ℕ-discrete (h .kind o) noKind) (ℕ-discrete (h .kind o) emptyRemove)
+      where
+        by : Dec (h .kind o ≡ noKind) → Dec (h .kind o ≡ emptyRemove) → keeps h [] values o ≡ keeps h [] others o
+        by (yes k) d = rw k refl
+        by (no n) (yes k) = rw k refl
+        by (no n) (no k) =
+            let valued : HasValue h o = record { known = known; valued = omega (arith, history-lawful read .kinds o known) } in
+            rw (ne-eqb _ _ n, ne-eqb _ _ k, same o valued) refl
 
 -- 23: "excerpt where the verdict is an order": so it is answered, and nothing is written.
-pub excerpt-of-order : (log : List ℕ) (records : List Record) → readLog log ≡ readable records → (order : List ℕ) → Linearization (historyOf records) order → (out : List ℕ)
+pub excerpt-of-order : (log : List ℕ) (records : List Record) → readLog log ≡ readable records → (order : List ℕ)
+    → Linearization Queue (historyOf records) order → (out : List ℕ)
     → (excerptAnswer (readLog log) out ≡ Refused noPattern 0) × (excerptLeaves (readLog log) out ≡ out)
-excerpt-of-order log records reads order legal out = rw reads (go (first-violation (historyOf records)))
+excerpt-of-order log records reads order legal out = rw reads (go (first-violation Queue (historyOf records)))
   where
-    go : (found : SomeViolation (historyOf records) ⊎ NoViolation (historyOf records)) → (excerptAnswerOf records found out ≡ Refused noPattern 0) × (excerptLeavesOf records found out ≡ out)
-    go (inl (n, listed, first)) = absurd (excluded (history-lawful (readable-log log records reads)) legal (first .occurs))
+    go : (found : SomeViolation Queue (historyOf records) ⊎ NoViolation Queue (historyOf records))
+        → (excerptAnswerOf records found out ≡ Refused noPattern 0) × (excerptLeavesOf records found out ≡ out)
+    go (inl (n, listed, first)) =
+        let read = readable-log log records reads in
+        absurd (excluded (history-lawful read) (returned-complete (history-returned read) legal) (first .occurs))
     go (inr clean) = (refl, refl)
 
 -- With a pattern the excerpt of its operations is written, or 24 is answered.
-pub excerpt-of-pattern : (log : List ℕ) (records : List Record) → readLog log ≡ readable records → {n : ℕ} {listed : List ℕ} → FirstViolation (historyOf records) n listed → (out : List ℕ)
+pub excerpt-of-pattern : (log : List ℕ) (records : List Record) → readLog log ≡ readable records → {n : ℕ} {listed : List ℕ}
+    → FirstViolation Queue (historyOf records) n listed → (out : List ℕ)
     → (excerptAnswer (readLog log) out ≡ writing (encodeLog (excerpted records listed)) out) × (excerptLeaves (readLog log) out ≡ written (encodeLog (excerpted records listed)) out)
-excerpt-of-pattern log records reads {n} {listed} first out = rw reads (go (first-violation (historyOf records)))
+excerpt-of-pattern log records reads {n} {listed} first out = rw reads (go (first-violation Queue (historyOf records)))
   where
-    go : (found : SomeViolation (historyOf records) ⊎ NoViolation (historyOf records))
+    go : (found : SomeViolation Queue (historyOf records) ⊎ NoViolation Queue (historyOf records))
         → (excerptAnswerOf records found out ≡ writing (encodeLog (excerpted records listed)) out) × (excerptLeavesOf records found out ≡ written (encodeLog (excerpted records listed)) out)
     go (inl (m, other, found)) =
         let same : other ≡ listed = first-violation-one found first .1 in

@@ -1,6 +1,7 @@
 -- The history of records picked out of those of a readable log is a part of the log's history, if calls are picked with their returns, and
 -- with an operation all operations on its value.
 use Prim.Native.Nat.{ℕ, _<_}
+use native.Mathlib.Omega.{arith}
 use mathlib.Core.Path.{_≡_, sym, _∙_}
 use mathlib.Core.Bool.{Bool, true}
 use mathlib.Core.Logic.{_↔_, Iff·rfl, Iff·symm, Iff·trans}
@@ -34,7 +35,7 @@ module _ {marked : ℕ → Bool} {records kept : List Record} (together : Togeth
 
   -- so the original of an operation with a value has one
   original-valued : (q : ℕ) → HasValue (historyOf kept) q → HasValue (historyOf records) (original p q)
-  original-valued q x = record { known = original-known p q (x .known); valued = λ e. x .valued (sym (kind-same q (x .known)) ∙ e) }
+  original-valued q x = record { known = original-known p q (x .known); valued = omega (arith, x .valued, kind-same q (x .known)) }
 
   -- returns stand before calls alike
   return-before : (o q : ℕ) → o < operations kept → q < operations kept → returnIndex kept (callIndex kept o) < length kept

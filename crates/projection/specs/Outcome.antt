@@ -8,6 +8,7 @@ use Rattle.record.specs.Choice.{if_then_else_}
 use Rattle.record.specs.declared.record.Record.{Record}
 use Rattle.buffer.specs.Buffer.{bufferTooShort, lacksRoom, written}
 use Rattle.reader.specs.Log.{Reading, readable, refused, encodeLog}
+use Rattle.history.specs.Object.{Queue}
 use Rattle.history.specs.Operations.{historyOf}
 use Rattle.violations.specs.Violations.{NoViolation}
 use Rattle.violations.proofs.Laws.{SomeViolation, first-violation}
@@ -33,18 +34,18 @@ narrowLeaves (refused number index) values out = out
 narrowLeaves (readable records) values out = written (encodeLog (narrowed records values)) out
 
 -- the excerpt of a log: the log's refusal; 23 if no pattern occurs; or the excerpt of the first pattern is written
-abbrev pub excerptAnswerOf : (records : List Record) → SomeViolation (historyOf records) ⊎ NoViolation (historyOf records) → List ℕ → Projected
+abbrev pub excerptAnswerOf : (records : List Record) → SomeViolation Queue (historyOf records) ⊎ NoViolation Queue (historyOf records) → List ℕ → Projected
 excerptAnswerOf records (inl (number, listed, first)) out = writing (encodeLog (excerpted records listed)) out
 excerptAnswerOf records (inr clean) out = Refused noPattern 0
 
-abbrev pub excerptLeavesOf : (records : List Record) → SomeViolation (historyOf records) ⊎ NoViolation (historyOf records) → List ℕ → List ℕ
+abbrev pub excerptLeavesOf : (records : List Record) → SomeViolation Queue (historyOf records) ⊎ NoViolation Queue (historyOf records) → List ℕ → List ℕ
 excerptLeavesOf records (inl (number, listed, first)) out = written (encodeLog (excerpted records listed)) out
 excerptLeavesOf records (inr clean) out = out
 
 abbrev pub excerptAnswer : Reading → List ℕ → Projected
 excerptAnswer (refused number index) out = Refused number index
-excerptAnswer (readable records) out = excerptAnswerOf records (first-violation (historyOf records)) out
+excerptAnswer (readable records) out = excerptAnswerOf records (first-violation Queue (historyOf records)) out
 
 abbrev pub excerptLeaves : Reading → List ℕ → List ℕ
 excerptLeaves (refused number index) out = out
-excerptLeaves (readable records) out = excerptLeavesOf records (first-violation (historyOf records)) out
+excerptLeaves (readable records) out = excerptLeavesOf records (first-violation Queue (historyOf records)) out

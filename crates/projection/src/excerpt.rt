@@ -15,6 +15,7 @@ use crate::write::write_kept;
 use history::operations::EMPTY_REMOVE;
 use history::operations::FIELDS;
 use history::operations::KIND;
+use history::operations::NO_KIND;
 use history::operations::Operations;
 use history::operations::TABLE;
 use history::operations::VALUE;
@@ -29,13 +30,18 @@ use table::table::push;
 // The number of the refusal of an excerpt where the verdict is an order.
 const NO_PATTERN: u32 = 23;
 
-// Puts the value of an operation behind those of a table; an empty remove has none. Answers how many there are then.
+// Puts the value of an operation behind those of a table; an operation of which nothing is known has no value, nor has an empty remove. Answers
+// how many values there are then.
 fn add_value(table: &Operations, o: usize, count: usize, values: &mut Table) -> usize
     requires { ⌜ (o < maxRecords) × (count < maxRecords) × (length (now values) ≡ maxRecords) ⌝ }
     ensures { λ r. ⌜ ValueAdded (now (table .entry)) o count (now (values .entry)) r (now (values .exit)) ⌝ }
 {
     let at = o * FIELDS;
-    if table[at + KIND] == EMPTY_REMOVE {
+    let kind = table[at + KIND];
+    if kind == NO_KIND {
+        return count;
+    }
+    if kind == EMPTY_REMOVE {
         return count;
     }
     push(values, count, table[at + VALUE]);

@@ -7,6 +7,7 @@ ghost use Rattle.projection.specs.Marks.{keepsIn, KeptAre};
 use history::operations::EMPTY_REMOVE;
 use history::operations::FIELDS;
 use history::operations::KIND;
+use history::operations::NO_KIND;
 use history::operations::Operations;
 use history::operations::VALUE;
 use reader::format::MAX_RECORDS;
@@ -18,13 +19,17 @@ pub const MARKED: u8 = 1;
 // For each operation, or for each record, MARKED if it is kept, or 0.
 pub type Marks = [u8; MAX_RECORDS];
 
-// Whether an operation is kept: an empty remove by its number, any other operation by its value.
+// Whether an operation is kept: one of which nothing is known never is, an empty remove is by its number, any other operation by its value.
 fn keeps(table: &Operations, o: usize, empties: &[u32], values: &[u32]) -> bool
     requires { ⌜ o < maxRecords ⌝ }
     ensures { λ r. ⌜ r ≡ keepsIn (now (table .entry)) (now (empties .entry)) (now (values .entry)) o ⌝ }
 {
     let at = o * FIELDS;
-    if table[at + KIND] == EMPTY_REMOVE {
+    let kind = table[at + KIND];
+    if kind == NO_KIND {
+        return false;
+    }
+    if kind == EMPTY_REMOVE {
         return is_in(o as u32, empties);
     }
     is_in(table[at + VALUE], values)

@@ -6,11 +6,13 @@ use mathlib.Core.List.{List}
 use Rattle.reader.specs.Log.{readLog, checked}
 use Rattle.reader.specs.declared.log.Checked.{Checked}
 use Rattle.reader.specs.declared.log.Checked.the-variants as check
-use Rattle.reader.proofs.Laws.{checked-refused}
-use Rattle.history.specs.Linearization.{Linearization}
+use Rattle.reader.proofs.Laws.{readable-log, checked-refused}
+use Rattle.history.specs.Linearization.{CompleteLinearization}
 use Rattle.history.specs.Sheet.{listedOn}
 use Rattle.history.specs.Table.{tabled}
-use Rattle.history.proofs.Agreeing.{agree-sym, agree-linearization}
+use Rattle.history.proofs.Agreeing.{agree-sym, agree-complete}
+use Rattle.history.proofs.Laws.{history-returned}
+use Rattle.history.proofs.Queues.{complete-linearization, returned-complete}
 use Rattle.history.proofs.Tabulating.{Tabled}
 use Rattle.replay.specs.Replay.{isOrderSheet, wrongSheet, replayed}
 use Rattle.replay.proofs.Laws.{legal-is-yes, other-is-no, form-is-refused, log-refused-first}
@@ -28,8 +30,20 @@ module _ {log : List ℕ} {count end : ℕ} {table : List ℕ} (t : Tabled log c
 
   -- the order is tried
   module _ (s : isOrderSheet sheet ≡ true) where
-    pub order-legal : Linearization (tabled count end table) (listedOn sheet) → Yes ≡ replayed (readLog log) sheet
-    order-legal l = sym (legal-is-yes log sheet (record { records = t .records; reads = t .reads; form = s; legal = agree-linearization (t .agree) (listedOn sheet) l }))
+    pub order-legal : CompleteLinearization (tabled count end table) (listedOn sheet) → Yes ≡ replayed (readLog log) sheet
+    order-legal l = sym (legal-is-yes log sheet (record {
+      records = t .records;
+      reads = t .reads;
+      form = s;
+      legal = complete-linearization (agree-complete (t .agree) l);
+    }))
 
-    pub order-not-legal : (Linearization (tabled count end table) (listedOn sheet) → ⊥) → No ≡ replayed (readLog log) sheet
-    order-not-legal d = sym (other-is-no log sheet (record { records = t .records; reads = t .reads; form = s; not-legal = λ l. d (agree-linearization (agree-sym (t .agree)) (listedOn sheet) l) }))
+    pub order-not-legal : (CompleteLinearization (tabled count end table) (listedOn sheet) → ⊥) → No ≡ replayed (readLog log) sheet
+    order-not-legal d = sym (other-is-no log sheet (record {
+      records = t .records;
+      reads = t .reads;
+      form = s;
+      not-legal = λ l.
+          let returned = history-returned (readable-log log (t .records) (t .reads)) in
+          d (agree-complete (agree-sym (t .agree)) (returned-complete returned l));
+    }))

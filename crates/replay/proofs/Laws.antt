@@ -11,10 +11,11 @@ use Rattle.record.specs.declared.record.Record.{Record}
 use Rattle.reader.specs.Log.{maxRecords, Reading, readable, refused, readLog, operations}
 use Rattle.reader.specs.Readable.{Within}
 use Rattle.reader.proofs.Laws.{within, few-operations}
+use Rattle.history.specs.Object.{Queue}
 use Rattle.history.specs.Linearization.{Linearization}
 use Rattle.history.specs.Operations.{historyOf}
 use Rattle.history.specs.Sheet.{orderVerdict, sheetHeader, sheetOf, listedField, listedOn}
-use Rattle.history.proofs.Counting.{linearization-short}
+use Rattle.history.proofs.Counting.{ordering-short}
 use Rattle.history.proofs.Deciding.{linearization?}
 use Rattle.history.proofs.Sheets.{sheet-length, sheet-lists, listed-length}
 use Rattle.replay.specs.Replay.{wrongSheet, isOrderSheet, replayed, ListsLinearization, ListsOther}
@@ -23,19 +24,20 @@ use Rattle.replay.specs.declared.replay.Replayed.the-variants.{Yes, No, 
 
 -- what replay finds of a readable log and a sheet
 data Outcome (records : List Record) (sheet : List ℕ) : Type 0 where
-  legal : isOrderSheet sheet ≡ true → Linearization (historyOf records) (listedOn sheet) → replayed (readable records) sheet ≡ Yes → Outcome records sheet
-  other : isOrderSheet sheet ≡ true → (Linearization (historyOf records) (listedOn sheet) → ⊥) → replayed (readable records) sheet ≡ No → Outcome records sheet
+  legal : isOrderSheet sheet ≡ true → Linearization Queue (historyOf records) (listedOn sheet) → replayed (readable records) sheet ≡ Yes → Outcome records sheet
+  other : isOrderSheet sheet ≡ true → (Linearization Queue (historyOf records) (listedOn sheet) → ⊥) → replayed (readable records) sheet ≡ No → Outcome records sheet
   formless : isOrderSheet sheet ≡ false → replayed (readable records) sheet ≡ Refused wrongSheet 0 → Outcome records sheet
 
 outcome : (records : List Record) (sheet : List ℕ) → Outcome records sheet
 outcome records sheet = go (isOrderSheet sheet) refl
   where
-    by : isOrderSheet sheet ≡ true → (d : Dec (Linearization (historyOf records) (listedOn sheet))) → linearization? (historyOf records) (listedOn sheet) ≡ d → Outcome records sheet
+    by : isOrderSheet sheet ≡ true → (d : Dec (Linearization Queue (historyOf records) (listedOn sheet)))
+        → linearization? Queue (historyOf records) (listedOn sheet) ≡ d → Outcome records sheet
     by form (yes l) e = legal form l (rw (form, e) refl)
     by form (no n) e = other form n (rw (form, e) refl)
 
     go : (form : Bool) → isOrderSheet sheet ≡ form → Outcome records sheet
-    go true form = by form (linearization? (historyOf records) (listedOn sheet)) refl
+    go true form = by form (linearization? Queue (historyOf records) (listedOn sheet)) refl
     go false form = formless form (rw form refl)
 
 -- Replay says yes exactly if the log is readable and the sheet lists a legal order of it.
@@ -105,17 +107,20 @@ module _ (order : List ℕ) (few : length order < 65536) (small : (i : ℕ) → 
       let k : listedField sheet ≡ length order = sym (listed-length sheet) ∙ ap length (sheet-lists orderVerdict order few small) in
       sym (sheet-by-length sheet (omega (arith, sheet-length orderVerdict order)) refl refl) ∙ eq-eqb (length sheet) (sheetHeader + 2 * listedField sheet) (omega (arith, sheet-length orderVerdict order))
 
-  pub written-yes : (log : List ℕ) → replayed (readLog log) (sheetOf orderVerdict order) ≡ Yes → (records : List Record) × (readLog log ≡ readable records) × Linearization (historyOf records) order
+  pub written-yes : (log : List ℕ) → replayed (readLog log) (sheetOf orderVerdict order) ≡ Yes
+      → (records : List Record) × (readLog log ≡ readable records) × Linearization Queue (historyOf records) order
   written-yes log e =
       let listed = yes-is-legal log (sheetOf orderVerdict order) e in
       (listed .records, listed .reads, rw (sheet-lists orderVerdict order few small) at (listed .legal))
 
-  pub written-legal : (log : List ℕ) (records : List Record) → readLog log ≡ readable records → Linearization (historyOf records) order → replayed (readLog log) (sheetOf orderVerdict order) ≡ Yes
+  pub written-legal : (log : List ℕ) (records : List Record) → readLog log ≡ readable records → Linearization Queue (historyOf records) order
+      → replayed (readLog log) (sheetOf orderVerdict order) ≡ Yes
   written-legal log records reads l =
       legal-is-yes log (sheetOf orderVerdict order) (record { records = records; reads = reads; form = written-form; legal = rw (sheet-lists orderVerdict order few small) l })
 
 -- Every legal order of a log fits on a sheet, whoever made it, and replay says yes to it.
-pub linearization-replays : (log : List ℕ) (records : List Record) → readLog log ≡ readable records → (order : List ℕ) → Linearization (historyOf records) order
+pub linearization-replays : (log : List ℕ) (records : List Record) → readLog log ≡ readable records → (order : List ℕ)
+    → Linearization Queue (historyOf records) order
     → (listedOn (sheetOf orderVerdict order) ≡ order) × (replayed (readLog log) (sheetOf orderVerdict order) ≡ Yes)
 linearization-replays log records e order l = (sheet-lists orderVerdict order short numbers, written-legal order short numbers log records e l)
   where
@@ -123,10 +128,10 @@ linearization-replays log records e order l = (sheet-lists orderVerdict order sh
     few = let read : Within (readable records) = rw e at (within log) in omega (arith, few-operations records)
 
     short : length order < 65536
-    short = omega (arith, few, linearization-short (historyOf records) order l)
+    short = omega (arith, few, ordering-short (l .ordering))
 
     small : (i : ℕ) → Dec (i < length order) → getD order i 0 < 65536
-    small i (yes b) = omega (arith, few, l .known i b)
+    small i (yes b) = omega (arith, few, l .ordering .known i b)
     small i (no b) = rw (List·getD-eq-default order 0 {n = i} (omega arith)) (omega arith)
 
     numbers : (i : ℕ) → getD order i 0 < 65536

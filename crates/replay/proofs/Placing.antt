@@ -12,8 +12,10 @@ use lib.Seq.{drop-cons, drop-length, getD-set-same, getD-set-other}
 use Rattle.reader.specs.Log.{maxRecords}
 use Rattle.history.specs.Answers.{Decides}
 use Rattle.history.specs.History.{History, Precedes}
-use Rattle.history.specs.Linearization.{Makes, Fifo, done, then, placed, Linearization}
-use Rattle.history.proofs.Queues.{makes-one, fifo-first}
+use Rattle.history.specs.RunFrom.{done, then}
+use Rattle.history.specs.Linearization.{Makes, Fifo, placed, CompleteLinearization}
+use Rattle.history.proofs.Running.{run-first}
+use Rattle.history.proofs.Queues.{makes-one}
 use Rattle.history.proofs.Basics.{up-to}
 use Rattle.replay.proofs.Marking.{total-mark}
 use Rattle.replay.specs.Trial.{Unmarked, waiting, Served, Serves, Kept, After, Stepped, AllPlaced, AllMarked}
@@ -23,18 +25,18 @@ use Rattle.replay.specs.declared.order.Step.the-variants.{Placed, Illega
 
 -- an order that cannot go on with operation o is not legal: there is no such operation
 pub stepped-unknown : {h : History} {o : ℕ} {p : Progress} {marks queue marks' queue' : List ℕ} → h .count ≤ o → Stepped h o p marks queue Illegal marks' queue'
-stepped-unknown l = record { after = λ order i below here kept legal. omega (arith, legal .known i below) }
+stepped-unknown l = record { after = λ order i below here kept legal. omega (arith, legal .ordering .known i below) }
 
 -- it was placed before
 pub stepped-twice : {h : History} {o : ℕ} {p : Progress} {marks queue marks' queue' : List ℕ} → getD marks o 0 ≡ 1 → Stepped h o p marks queue Illegal marks' queue'
 stepped-twice {o = o} m = record {
-  after = λ order i below here kept legal. let (j, l, e) = kept .marked o m in legal .once j i l below (e ∙ sym here);
+  after = λ order i below here kept legal. let (j, l, e) = kept .marked o m in legal .ordering .once j i l below (e ∙ sym here);
 }
 
 -- it precedes one that was placed
 pub stepped-late : {h : History} {o : ℕ} {p : Progress} {marks queue marks' queue' : List ℕ} → h .ret o < p .latest → Stepped h o p marks queue Illegal marks' queue'
 stepped-late {h} {o} late = record {
-  after = λ order i below here kept legal. let (j, l, e) = kept .met (omega arith) in legal .keeps j i l below (omega (arith, ap (h .ret) here));
+  after = λ order i below here kept legal. let (j, l, e) = kept .met (omega arith) in legal .ordering .keeps j i l below (omega (arith, ap (h .ret) here));
 }
 
 -- otherwise it is placed, or cannot be run
@@ -48,9 +50,9 @@ module _ (h : History) (o latest : ℕ) (p : Progress) (marks queue : List ℕ) 
     rest = rw (add-one, ← here) (drop-cons order i 0 below)
 
     first : Fifo h order [] → (queue' : List ℕ) × Makes h o (waiting p queue) queue' × Fifo h (drop (i + 1) order) queue'
-    first run = fifo-first (rw rest at (kept .rest-follows run))
+    first run = run-first (rw rest at (kept .rest-follows run))
 
-    unplaced : ((queue' : List ℕ) → Makes h o (waiting p queue) queue' → ⊥) → Linearization h order → ⊥
+    unplaced : ((queue' : List ℕ) → Makes h o (waiting p queue) queue' → ⊥) → CompleteLinearization h order → ⊥
     unplaced served legal = let (queue', made, more) = first (legal .runs) in served queue' made
 
     not-before : (j : ℕ) → j < i → placed order j ≡ o → ⊥
@@ -128,18 +130,21 @@ kept-none h order marks queue few unmarked sized = record {
 }
 
 -- an order all of which is placed is legal exactly if it omits no returned operation
-placed-legal : {h : History} {order marks : List ℕ} → AllPlaced h order marks → AllMarked h marks → Linearization h order
+placed-legal : {h : History} {order marks : List ℕ} → AllPlaced h order marks → AllMarked h marks → CompleteLinearization h order
 placed-legal {order = order} all marked = record {
-  known = all .kept .known;
-  every = λ o l r. let (j, m, e) = all .kept .marked o (marked o l r) in record { at = j; below = m; here = e };
-  once = all .kept .once;
-  keeps = all .kept .keeps;
+  ordering = record {
+    known = all .kept .known;
+    every = λ o l r. let (j, m, e) = all .kept .marked o (marked o l r) in record { at = j; below = m; here = e };
+    once = all .kept .once;
+    keeps = all .kept .keeps;
+  };
   runs = all .kept .rest-suffices (rw (drop-length order) done);
 }
 
-legal-marks : {h : History} {order marks : List ℕ} → AllPlaced h order marks → Linearization h order → AllMarked h marks
-legal-marks all legal o l r = let listed = legal .every o l r in rw (listed .here) at (all .kept .marks-all (listed .at) (listed .below))
+legal-marks : {h : History} {order marks : List ℕ} → AllPlaced h order marks → CompleteLinearization h order → AllMarked h marks
+legal-marks all legal o l r = let listed = legal .ordering .every o l r in rw (listed .here) at (all .kept .marks-all (listed .at) (listed .below))
 
-pub legal-decided : {h : History} {order marks : List ℕ} → AllPlaced h order marks → (marked : Bool) → Decides (AllMarked h marks) marked → Decides (Linearization h order) marked
+pub legal-decided : {h : History} {order marks : List ℕ} → AllPlaced h order marks → (marked : Bool) → Decides (AllMarked h marks) marked
+    → Decides (CompleteLinearization h order) marked
 legal-decided all true marked = placed-legal all marked
 legal-decided all false omitted = λ legal. omitted (legal-marks all legal)

@@ -9,6 +9,7 @@ use lib.Dec.{ltb, eqb}
 use Rattle.record.specs.Choice.{if_then_else_}
 use Rattle.record.specs.declared.record.Record.{Record}
 use Rattle.reader.specs.Log.{Reading, readable, refused, readLog}
+use Rattle.history.specs.Object.{Queue}
 use Rattle.history.specs.Linearization.{Linearization}
 use Rattle.history.specs.Operations.{historyOf}
 use Rattle.history.specs.Sheet.{sheetVersion, orderVerdict, sheetHeader, listedField, listedOn}
@@ -37,18 +38,18 @@ says (no n) = No
 abbrev pub replayed : Reading → List ℕ → Replayed
 replayed (refused number index) sheet = Refused number index
 replayed (readable records) sheet =
-    if isOrderSheet sheet then says (linearization? (historyOf records) (listedOn sheet)) else Refused wrongSheet 0
+    if isOrderSheet sheet then says (linearization? Queue (historyOf records) (listedOn sheet)) else Refused wrongSheet 0
 
 -- The log is readable and the sheet lists a legal order of it: what a yes of replay means.
 pub record ListsLinearization (log sheet : List ℕ) : Type 0 where
   pub records : List Record
   pub reads : readLog log ≡ readable records
   pub form : isOrderSheet sheet ≡ true
-  pub legal : Linearization (historyOf records) (listedOn sheet)
+  pub legal : Linearization Queue (historyOf records) (listedOn sheet)
 
 -- The log is readable and the sheet lists an order that is not legal for it: what a no means.
 pub record ListsOther (log sheet : List ℕ) : Type 0 where
   pub records : List Record
   pub reads : readLog log ≡ readable records
   pub form : isOrderSheet sheet ≡ true
-  pub not-legal : Linearization (historyOf records) (listedOn sheet) → ⊥
+  pub not-legal : Linearization Queue (historyOf records) (listedOn sheet) → ⊥

@@ -8,7 +8,7 @@ use lib.ListN.{length, getD, drop}
 use lib.Seq.{slice}
 use Rattle.reader.specs.Log.{maxRecords}
 use Rattle.history.specs.History.{History, Returned, Precedes}
-use Rattle.history.specs.Linearization.{Makes, Fifo, placed, Linearization}
+use Rattle.history.specs.Linearization.{Makes, Fifo, placed, CompleteLinearization}
 use Rattle.history.specs.Table.{tabled, returnAt}
 use Rattle.replay.specs.declared.order.Progress.{Progress}
 use Rattle.replay.specs.declared.order.Step.{Step}
@@ -67,7 +67,7 @@ pub record Kept (h : History) (order : List ℕ) (i : ℕ) (p : Progress) (marks
 
 -- A step: the next operation of the order is placed, or the order is not legal.
 abbrev pub After : History → List ℕ → ℕ → List ℕ → List ℕ → Step → Type 0
-After h order i marks queue Illegal = Linearization h order → ⊥
+After h order i marks queue Illegal = CompleteLinearization h order → ⊥
 After h order i marks queue (Placed q) = Kept h order (i + 1) q marks queue
 
 pub record Stepped (h : History) (o : ℕ) (p : Progress) (marks queue : List ℕ) (step : Step) (marks' queue' : List ℕ) : Type 0 where
@@ -86,7 +86,7 @@ pub record AllPlaced (h : History) (order marks : List ℕ) : Type 0 where
 -- all of the order is placed, or the order is not legal
 abbrev pub Tried : History → List ℕ → List ℕ → Bool → Type 0
 Tried h order marks true = AllPlaced h order marks
-Tried h order marks false = Linearization h order → ⊥
+Tried h order marks false = CompleteLinearization h order → ⊥
 
 -- the same for the history in a table, wherever its end is
 pub record TriedIn (count : ℕ) (table order marks : List ℕ) (answer : Bool) : Type 0 where

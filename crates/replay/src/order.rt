@@ -7,7 +7,7 @@ ghost use Prim.Native.Nat.{_≤_, _<_};
 ghost use lib.ListN.{length};
 ghost use Rattle.reader.specs.Log.{maxRecords};
 ghost use Rattle.history.specs.Answers.{Decides};
-ghost use Rattle.history.specs.Linearization.{Linearization};
+ghost use Rattle.history.specs.Linearization.{CompleteLinearization};
 ghost use Rattle.history.specs.Sheet.{listedOn};
 ghost use Rattle.history.specs.Table.{tabled};
 ghost use Rattle.replay.specs.Replay.{isOrderSheet};
@@ -187,7 +187,7 @@ fn all_marked(table: &Operations, count: usize, end: usize, marks: &Marks) -> bo
 // Whether the order that a sheet lists is legal for the history that the table holds.
 pub(crate) fn is_linearization(table: &Operations, count: usize, end: usize, sheet: &[u8]) -> bool
     requires { ⌜ (count ≤ maxRecords) × (end ≤ maxRecords) × (isOrderSheet (now sheet) ≡ true) ⌝ }
-    ensures { λ r. ⌜ Decides (Linearization (tabled count end (now (table .entry))) (listedOn (now (sheet .entry)))) r ⌝ }
+    ensures { λ r. ⌜ Decides (CompleteLinearization (tabled count end (now (table .entry))) (listedOn (now (sheet .entry)))) r ⌝ }
 {
     let mut marks = [0u8; MAX_RECORDS];
     if !place_all(table, count, sheet, &mut marks) {

@@ -8,7 +8,7 @@ use lib.ListN.{take}
 use Rattle.table.specs.Table.{Pushed}
 use Rattle.history.specs.History.{History}
 use Rattle.history.specs.Linearization.{Listed}
-use Rattle.violations.specs.Found.{Due}
+use Rattle.violations.specs.Greedy.{Due}
 use Rattle.violations.proofs.Lists.{listed-either}
 use Rattle.matching.specs.Held.{Held}
 use Rattle.search.specs.Searching.{Waits, orderIn, LeastReturn, Room, AdmittedOne, Admitted}

@@ -8,12 +8,13 @@ use mathlib.Core.Logic.{_⊎_, inl, inr}
 use mathlib.Core.List.{List, [], _∷_, _++_}
 use lib.ListN.{length, getD}
 use lib.Seq.{slice, slice-empty, slice-cons, length-slice}
-use Rattle.history.specs.History.{History, add, remove, emptyRemove}
+use Rattle.history.specs.History.{History, add, remove, emptyRemove, noKind}
 use Rattle.history.specs.Linearization.{Listed}
 use Rattle.violations.specs.Violations.{Is, Removed, Reaches, removed, never}
-use Rattle.violations.specs.Found.{Due, Left, Enabled, Safe, Serves, enqueues, dequeues, meets-empty, Placeable}
+use Rattle.violations.specs.Greedy.{Due, Left, Enabled, Placeable}
+use Rattle.violations.specs.Found.{Safe, Serves, enqueues, dequeues, meets-empty}
 use Rattle.violations.proofs.Operations.{removed?}
-use Rattle.violations.proofs.Progress.{left?}
+use Rattle.violations.proofs.Greedy.{left?}
 use Rattle.violations.proofs.Lists.{listed-here}
 use Rattle.matching.specs.Held.{Held}
 use Rattle.matching.specs.Reaches.{reachAt, Reaching}
@@ -34,19 +35,23 @@ pub data Kinds (h : History) (o : ℕ) : Type 0 where
   is-add : Is h add o → Kinds h o
   is-remove : Is h remove o → Kinds h o
   is-empty : Is h emptyRemove o → Kinds h o
+  is-none : Is h noKind o → Kinds h o
 
 pub kinds : {h : History} → Held h → (o : ℕ) → o < h .count → Kinds h o
-kinds {h} held o known = go (ℕ-discrete (h .kind o) add) (ℕ-discrete (h .kind o) remove)
+kinds {h} held o known = go (ℕ-discrete (h .kind o) add) (ℕ-discrete (h .kind o) remove) (ℕ-discrete (h .kind o) emptyRemove)
   where
-    go : Dec (h .kind o ≡ add) → Dec (h .kind o ≡ remove) → Kinds h o
-    go (yes e) d = is-add (record { known = known; kinds = e })
-    go (no n) (yes e) = is-remove (record { known = known; kinds = e })
-    go (no n) (no m) = is-empty (record { known = known; kinds = omega (arith, held .lawful .kinds o known) })
+    go : Dec (h .kind o ≡ add) → Dec (h .kind o ≡ remove) → Dec (h .kind o ≡ emptyRemove) → Kinds h o
+    go (yes e) d f = is-add (record { known = known; kinds = e })
+    go (no n) (yes e) f = is-remove (record { known = known; kinds = e })
+    go (no n) (no m) (yes e) = is-empty (record { known = known; kinds = e })
+    go (no n) (no m) (no k) = is-none (record { known = known; kinds = omega (arith, held .lawful .kinds o known) })
 
 -- an operation that sets a limit is to be listed
 limit-due : {h : History} {limit : List ℕ} → Held h → Limits h limit → (o : ℕ) → o < h .count → (Due h o → ⊥) → limitAt limit o ≡ h .end + 1
 limit-due held limits o known idle =
-    limits .others o known (λ e. idle (record { known = known; listed = inl (held .lawful .returned o known (λ f. omega arith)) })) (λ is out. idle (record { known = known; listed = inr out }))
+    limits .others o known
+    (λ e. idle (record { known = known; kinded = omega arith; listed = inl (held .lawful .returned o known (omega arith)) }))
+    (λ is out. idle (record { known = known; kinded = omega (arith, is .kinds); listed = inr out }))
 
 -- The least limit of those that wait and of those that are not enabled yet is the least of all that is left.
 pub cap-is : {h : History} {limit order waiting : List ℕ} {next bound x : ℕ} → Held h → Limits h limit → Waits h order next waiting → ((o : ℕ) → Listed order o → o < next)
@@ -107,6 +112,15 @@ module _ {h : History} {reach queue : List ℕ} {s : Stand} {cap o : ℕ} (fit :
       go (removes e l f) = absurd (omega arith)
       go (empties e f) = f
 
+  -- what may be placed is of a kind
+  pub fit-some : (add ≤ h .kind o) × (h .kind o ≤ emptyRemove)
+  fit-some = go fit
+    where
+      go : Fit h reach queue s cap o → (add ≤ h .kind o) × (h .kind o ≤ emptyRemove)
+      go (adds e l) = omega arith
+      go (removes e l f) = omega arith
+      go (empties e f) = omega arith
+
 module _ {h : History} (reach limit order : List ℕ) (cap : ℕ) (limits : Limits h limit) (capped : Cap h limit order cap) where
   -- an add that reaches less far than all limits is safe
   below-safe : {a : ℕ} → reachAt reach a < cap → Safe h (reachAt reach) (gapAt limit) order a
@@ -129,6 +143,7 @@ module _ {h : History} (reach limit order : List ℕ) (cap : ℕ) (limits : Limi
       by-kind : (o : ℕ) → Left h order o → limitAt limit o ≡ cap → Kinds h o → reachAt reach a < cap
       by-kind o left e (is-add other) = by-add o other left e (removed? h o)
       by-kind o left e (is-remove other) = omega (arith, within, limits .others o (other .known) (λ f. omega (arith, other .kinds)) (λ i out. omega (arith, other .kinds, i .kinds)))
+      by-kind o left e (is-none other) = absurd (omega (arith, other .kinds, left .due .kinded))
       by-kind o left e (is-empty other) = omega (arith, safe .empties o other left, gaps o other)
 
       go : (cap ≡ h .end + 1) ⊎ ((o : ℕ) × Left h order o × (limitAt limit o ≡ cap)) → reachAt reach a < cap
@@ -139,7 +154,7 @@ module _ {h : History} (reach limit order : List ℕ) (cap : ℕ) (limits : Limi
     -- what the placeable operation makes of the queue, by what the code tests of it
     pub fit-places : {o : ℕ} → Enabled h order o → Fit h reach queue s cap o → (queue' : List ℕ) → (h .kind o ≡ add → queue' ≡ queueIn s queue ++ (o ∷ []))
         → (h .kind o ≡ remove → s .head < s .tail → queueIn s queue ≡ getD queue (s .head) 0 ∷ queue') → (h .kind o ≡ emptyRemove → queue' ≡ queueIn s queue)
-        → Placeable h (reachAt reach) (gapAt limit) order (queueIn s queue) o queue'
+        → Placeable h (Serves h (reachAt reach) (gapAt limit)) order (queueIn s queue) o queue'
     fit-places enabled (adds k l) queue' added removed' empty = record { enabled = enabled; serves = rw (added k) (enqueues k (below-safe l)) }
     fit-places enabled (removes k l e) queue' added removed' empty = record {
       enabled = enabled;
@@ -151,7 +166,7 @@ module _ {h : History} (reach limit order : List ℕ) (cap : ℕ) (limits : Limi
 
     -- a placeable operation passes the code's test
     pub placeable-fits : Held h → Reaching h reach → HaveGaps h limit
-        → {o : ℕ} {queue' : List ℕ} → Placeable h (reachAt reach) (gapAt limit) order (queueIn s queue) o queue' → Fit h reach queue s cap o
+        → {o : ℕ} {queue' : List ℕ} → Placeable h (Serves h (reachAt reach) (gapAt limit)) order (queueIn s queue) o queue' → Fit h reach queue s cap o
     placeable-fits held reaching gaps {o} {queue'} p = go (queueIn s queue) refl (p .serves)
       where
         nonempty : {a : ℕ} {rest : List ℕ} → queueIn s queue ≡ a ∷ rest → s .head < s .tail

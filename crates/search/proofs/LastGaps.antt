@@ -8,7 +8,7 @@ use mathlib.Core.Logic.{_⊎_, inl, inr}
 use mathlib.Core.List.{List}
 use lib.ListN.{getD}
 use borrow.Author.Tests.{eq-eqb, ne-eqb}
-use Rattle.history.specs.History.{History, add, remove, emptyRemove}
+use Rattle.history.specs.History.{History, add, remove, emptyRemove, noKind}
 use Rattle.history.specs.Table.{kindAt, tabled}
 use Rattle.violations.specs.Violations.{Is, RemoveOf, Removed, Gap, Covered, AllCovered}
 use Rattle.violations.specs.Search.{Single}
@@ -50,6 +50,11 @@ module _ {count end : ℕ} {table partner gaps limit : List ℕ} (held : Held (t
       ∙ rw (ne-eqb (kindAt table o) add (λ k. omega (arith, removes .kinds)), ne-eqb (kindAt table o) emptyRemove (λ k. omega (arith, removes .kinds))) refl
   limit-other {o} (inr (adds, never)) =
       limits .limits o (adds .known) ∙ rw (eq-eqb (kindAt table o) add (adds .kinds), eq-eqb (partnerAt partner o) 0 (never-unpartnered held partners adds never)) refl
+
+  pub limit-none : {o : ℕ} → Is h noKind o → limitAt limit o ≡ end + 1
+  limit-none {o} none =
+      limits .limits o (none .known)
+      ∙ rw (ne-eqb (kindAt table o) add (λ k. omega (arith, none .kinds)), ne-eqb (kindAt table o) emptyRemove (λ k. omega (arith, none .kinds))) refl
 
   -- where not all gaps of an empty remove are covered, its limit is 1 above the last that is not
   pub last-gap : {reach : List ℕ} → Reaching h reach → Uncovered h reach end gaps → {e : ℕ} → Is h emptyRemove e → (AllCovered h e → ⊥)

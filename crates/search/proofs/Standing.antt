@@ -8,14 +8,16 @@ use lib.ListN.{length, getD, take, length-append}
 use lib.Seq.{length-take-le, getD-take, slice-empty, append-snoc}
 use Rattle.reader.specs.Log.{maxRecords}
 use Rattle.table.specs.Table.{without, Pushed}
+use Rattle.history.specs.Object.{Queue}
 use Rattle.history.specs.History.{History}
 use Rattle.history.specs.Linearization.{placed, Listed}
 use Rattle.history.proofs.Counting.{different-are-few}
 use Rattle.violations.specs.Verdict.{JudgedLinearization}
 use Rattle.violations.specs.Search.{Single, Sound, Searched}
-use Rattle.violations.specs.Found.{Left, Placeable, Continues, ends, places}
+use Rattle.violations.specs.Greedy.{Left, Placeable, Continues, ends, places}
+use Rattle.violations.specs.Found.{Serves}
 use Rattle.violations.proofs.Laws.{search-starts, search-places, search-ends, search-goes-on}
-use Rattle.violations.proofs.Constructing.{search-few}
+use Rattle.violations.proofs.Greedy.{begun-few}
 use Rattle.violations.proofs.Lists.{snoc, listed-old, listed-new, listed-either, each-snoc, pairs-snoc}
 use Rattle.matching.specs.Held.{Held}
 use Rattle.matching.specs.Reaches.{reachAt, Reaching}
@@ -80,10 +82,10 @@ module _ {h : History} {reach limit : List ℕ} {s : Stand} {waiting queue list 
   ready-ends : s .waiting ≡ 0 → (o : ℕ) → Left h order o → ⊥
   ready-ends none = none-waits (held .lawful) (stands .waits) (ready .enabling) (waiting-long held stands ∙ none)
 
-  pub ready-whole : s .waiting ≡ 0 → JudgedLinearization h order
-  ready-whole none = search-ends (stands .searched) (ready-ends none)
+  pub ready-whole : s .waiting ≡ 0 → JudgedLinearization Queue h order
+  ready-whole none = search-ends (held .lawful) (stands .searched) (ready-ends none)
 
-  pub ready-found : s .waiting ≡ 0 → HaveGaps h limit → Continues h (reachAt reach) (gapAt limit) [] [] order
+  pub ready-found : s .waiting ≡ 0 → HaveGaps h limit → Continues h (Serves h (reachAt reach) (gapAt limit)) [] [] order
   ready-found none gaps = rw (append-nil order) at (stands .built gaps [] (ends (ready-ends none)))
 
   -- where something waits, there is room in the order
@@ -93,8 +95,8 @@ module _ {h : History} {reach limit : List ℕ} {s : Stand} {waiting queue list 
       let left = stands .waits .are (getD waiting 0 0) first .1 in
       let fresh : (i : ℕ) → i < length order → placed order i ≡ getD waiting 0 0 → ⊥ = λ i l e. left .unplaced (record { at = i; below = l; here = e }) in
       let few = different-are-few (placed (snoc order (getD waiting 0 0))) (length (snoc order (getD waiting 0 0))) (h .count)
-      (each-snoc order (getD waiting 0 0) (λ o. o < h .count) (λ i l. stands .searched .due i l .known) (left .due .known))
-      (pairs-snoc order (getD waiting 0 0) (λ o p. o ≡ p → ⊥) (stands .searched .once) fresh) in
+      (each-snoc order (getD waiting 0 0) (λ o. o < h .count) (λ i l. stands .searched .begun .due i l .known) (left .due .known))
+      (pairs-snoc order (getD waiting 0 0) (λ o p. o ≡ p → ⊥) (stands .searched .begun .once) fresh) in
       omega (arith, few, length-append order (getD waiting 0 0 ∷ []), order-long held stands)
 
   module _ {cap : ℕ} (reaching : Reaching h reach) (limits : Limits h limit) (capped : Cap h limit order cap) where
@@ -105,7 +107,7 @@ module _ {h : History} {reach limit : List ℕ} {s : Stand} {waiting queue list 
       here : placed waiters index ≡ p
       fit : Fit h reach queue s cap (getD waiting index 0)
 
-    waiter : HaveGaps h limit → {p : ℕ} {queue' : List ℕ} → Placeable h (reachAt reach) (gapAt limit) order (queueIn s queue) p queue' → Waiter p
+    waiter : HaveGaps h limit → {p : ℕ} {queue' : List ℕ} → Placeable h (Serves h (reachAt reach) (gapAt limit)) order (queueIn s queue) p queue' → Waiter p
     waiter gaps {p} placeable =
         let there = enabled-waits (held .lawful) (stands .waits) (ready .enabling) (placeable .enabled) in
         let inside : there .at < s .waiting = omega (arith, there .below, waiting-long held stands) in
@@ -132,7 +134,7 @@ module _ {h : History} {reach limit : List ℕ} {s : Stand} {waiting queue list 
       in-waiters = omega (arith, waiting-long held stands)
 
       -- it is the lowest that is placeable
-      lowest : HaveGaps h limit → (p : ℕ) (other : List ℕ) → p < o → Placeable h (reachAt reach) (gapAt limit) order (queueIn s queue) p other → ⊥
+      lowest : HaveGaps h limit → (p : ℕ) (other : List ℕ) → p < o → Placeable h (Serves h (reachAt reach) (gapAt limit)) order (queueIn s queue) p other → ⊥
       lowest gaps p queue' less placeable =
           let w = waiter gaps placeable in
           let not-here : w .index ≡ i → ⊥ = λ e. omega (arith, ap (placed waiters) e, w .here, at-i) in
@@ -181,8 +183,10 @@ module _ {h : History} {reach limit : List ℕ} {s : Stand} {waiting queue list 
       placed-low p (inr e) = omega (arith, stands .waits .are o o-waits .0)
 
       -- how the search goes on behind it is how it goes on from where it stands
-      placed-built : {queue' : List ℕ} → Placeable h (reachAt reach) (gapAt limit) order (queueIn s queue) o queue' → HaveGaps h limit → (more : List ℕ)
-          → Continues h (reachAt reach) (gapAt limit) (snoc order o) queue' more → Continues h (reachAt reach) (gapAt limit) [] [] (snoc order o ++ more)
+      placed-built : {queue' : List ℕ} → Placeable h (Serves h (reachAt reach) (gapAt limit)) order (queueIn s queue) o queue' → HaveGaps h limit
+          → (more : List ℕ)
+          → Continues h (Serves h (reachAt reach) (gapAt limit)) (snoc order o) queue' more
+          → Continues h (Serves h (reachAt reach) (gapAt limit)) [] [] (snoc order o ++ more)
       placed-built placeable gaps more rest = rw (append-snoc order o more) (stands .built gaps (o ∷ more) (places placeable (lowest gaps) rest))
 
       pub ready-places : {t : Stand} {waiting' queue' list' : List ℕ} → length waiting' ≡ maxRecords → take (s .waiting - 1) waiting' ≡ without i waiters → Pushed (s .placed) o list list' → Queues (h .kind o) o s queue t queue'
@@ -190,7 +194,7 @@ module _ {h : History} {reach limit : List ℕ} {s : Stand} {waiting queue list 
       ready-places {t} {waiting'} {queue'} {list'} sized left pushed queues =
           let grown : orderIn t list' ≡ snoc order o = rw (queues .placed-is) (pushed .holds) in
           let fewer : waitingIn t waiting' ≡ without i waiters = rw (queues .waiting-is) left in
-          let placeable : Placeable h (reachAt reach) (gapAt limit) order (queueIn s queue) o (queueIn t queue') =
+          let placeable : Placeable h (Serves h (reachAt reach) (gapAt limit)) order (queueIn s queue) o (queueIn t queue') =
           fit-places reach limit order cap limits capped (stands-queue held stands) (waits-enabled (held .lawful) (stands .waits) (ready .enabling) o-waits) (first .holds inside) (queueIn t queue') (queues .added) (queues .removed) (queues .empty) in
           let more : Searched h (reachAt reach) (gapAt limit) (snoc order o) (queueIn t queue') = search-places (held .lawful) (stands .searched) single placeable in
           record {
@@ -201,7 +205,7 @@ module _ {h : History} {reach limit : List ℕ} {s : Stand} {waiting queue list 
             waiting-within = omega (arith, queues .waiting-is, queues .next-is, stands .waiting-within);
             head-within = queues .head-within (λ k. fit-remove (first .holds inside) k .0);
             tail-within = omega (arith, queues .tail-within, queues .placed-is, stands .tail-within);
-            placed-within = omega (arith, search-few more, length-append order (o ∷ []), order-long held stands, queues .placed-is);
+            placed-within = omega (arith, begun-few (more .begun), length-append order (o ∷ []), order-long held stands, queues .placed-is);
             searched = rw grown more;
             waits = rw (grown, fewer, queues .next-is) placed-waits;
             placed-below = rw (grown, queues .next-is) (λ p at. placed-low p (listed-either order o at));

@@ -8,7 +8,7 @@ use mathlib.Core.List.{List, []}
 use lib.ListN.{length}
 use Rattle.history.specs.History.{History, Lawful}
 use Rattle.history.specs.Linearization.{placed, Listed}
-use Rattle.violations.specs.Found.{Due, Left, Enabled}
+use Rattle.violations.specs.Greedy.{Due, Left, Enabled}
 use Rattle.violations.proofs.Lists.{snoc, listed-none, listed-old, listed-new, listed-either, pairs-snoc}
 use Rattle.search.specs.Searching.{Waits, LeastReturn, Enabling}
 

@@ -4,6 +4,7 @@ use mathlib.Core.Path.{_≡_}
 use mathlib.Core.List.{List}
 use lib.ListN.{length, take}
 use Rattle.reader.specs.Log.{maxRecords}
+use Rattle.history.specs.Object.{Queue}
 use Rattle.history.specs.History.{History}
 use Rattle.violations.specs.Violations.{NoViolation}
 use Rattle.violations.specs.Verdict.{JudgedLinearization}
@@ -15,10 +16,10 @@ use Rattle.search.specs.declared.order.Ended.the-variants.{Whole, Short}
 pub record OrderListed (h : History) (k : ℕ) (list : List ℕ) : Type 0 where
   pub sized : length list ≡ maxRecords
   pub within : k ≤ maxRecords
-  pub judged : JudgedLinearization h (take k list)
+  pub judged : JudgedLinearization Queue h (take k list)
   pub found : Found h (take k list)
 
 -- An order is found, or some pattern occurs.
 abbrev pub Ordered : History → Ended → List ℕ → Type 0
 Ordered h (Whole k) list = OrderListed h k list
-Ordered h Short list = (length list ≡ maxRecords) × (NoViolation h → ⊥)
+Ordered h Short list = (length list ≡ maxRecords) × (NoViolation Queue h → ⊥)

@@ -7,12 +7,14 @@ use mathlib.Core.List.{List, [], _∷_, _++_}
 use lib.ListN.{length, getD, take}
 use lib.Seq.{slice}
 use Rattle.reader.specs.Log.{maxRecords}
+use Rattle.history.specs.Object.{Queue}
 use Rattle.history.specs.History.{History, add, remove, emptyRemove}
 use Rattle.history.specs.Linearization.{placed, Listed}
 use Rattle.violations.specs.Violations.{Is, RemoveOf, Removed}
 use Rattle.violations.specs.Verdict.{JudgedLinearization}
 use Rattle.violations.specs.Search.{Single, Sound, Searched}
-use Rattle.violations.specs.Found.{Left, Continues}
+use Rattle.violations.specs.Greedy.{Left, Continues}
+use Rattle.violations.specs.Found.{Serves}
 use Rattle.matching.specs.Answers.{First}
 use Rattle.matching.specs.Reaches.{reachAt, Reaching}
 use Rattle.search.specs.Bounds.{limitAt}
@@ -66,8 +68,8 @@ pub record Stands (h : History) (reach limit : List ℕ) (s : Stand) (waiting qu
   pub waits : Waits h (orderIn s list) (s .next) (waitingIn s waiting)
   pub placed-below : (o : ℕ) → Listed (orderIn s list) o → o < s .next
   -- always the lowest operation was placed that may be placed: if the search goes on so, it has gone so from its start
-  pub built : HaveGaps h limit → (more : List ℕ) → Continues h (reachAt reach) (gapAt limit) (orderIn s list) (queueIn s queue) more
-      → Continues h (reachAt reach) (gapAt limit) [] [] (orderIn s list ++ more)
+  pub built : HaveGaps h limit → (more : List ℕ) → Continues h (Serves h (reachAt reach) (gapAt limit)) (orderIn s list) (queueIn s queue) more
+      → Continues h (Serves h (reachAt reach) (gapAt limit)) [] [] (orderIn s list ++ more)
 
 -- x is the least of `base` and what f makes of the numbers in a list
 pub record LeastOf (f : ℕ → ℕ) (base : ℕ) (numbers : List ℕ) (x : ℕ) : Type 0 where
@@ -150,5 +152,6 @@ pub record Placed (h : History) (s : Stand) (i : ℕ) (waiting queue list : List
 -- What the search comes to: a legal order as the judge lists it, found as the search goes, or the tables do not serve, since some pattern occurs.
 abbrev pub Ends : History → List ℕ → List ℕ → Ended → List ℕ → Type 0
 Ends h reach limit (Whole k) list =
-    (k ≤ maxRecords) × (length list ≡ maxRecords) × JudgedLinearization h (take k list) × (HaveGaps h limit → Continues h (reachAt reach) (gapAt limit) [] [] (take k list))
+    (k ≤ maxRecords) × (length list ≡ maxRecords) × JudgedLinearization Queue h (take k list)
+    × (HaveGaps h limit → Continues h (Serves h (reachAt reach) (gapAt limit)) [] [] (take k list))
 Ends h reach limit Short list = (length list ≡ maxRecords) × (Sound h (reachAt reach) (gapAt limit) → HaveGaps h limit → ⊥)

@@ -8,7 +8,7 @@ ghost use Rattle.history.specs.Answers.{Decides};
 ghost use Rattle.history.specs.Table.{tabled, callAt};
 ghost use Rattle.history.specs.Linearization.{Listed};
 ghost use Rattle.violations.specs.Search.{Single};
-ghost use Rattle.violations.specs.Found.{Due};
+ghost use Rattle.violations.specs.Greedy.{Due};
 ghost use Rattle.matching.specs.Held.{Held};
 ghost use Rattle.matching.specs.Answers.{First};
 ghost use Rattle.matching.specs.Reaches.{Reaching};
@@ -19,6 +19,7 @@ use crate::bounds::tighter;
 use crate::order::Ended;
 use history::operations::ADD;
 use history::operations::CALL;
+use history::operations::EMPTY_REMOVE;
 use history::operations::FIELDS;
 use history::operations::KIND;
 use history::operations::Operations;
@@ -181,7 +182,8 @@ fn fits(
             let front = queue[head] as usize;
             table[front * FIELDS + VALUE] == table[at + VALUE]
         }
-        _ => head == s.tail,
+        EMPTY_REMOVE => head == s.tail,
+        _ => false,
     }
 }
 

@@ -1,22 +1,23 @@
--- Histories that agree on their operations are lawful together and have the same verdicts, and the search finds the same order in
+-- Histories that agree on their operations are lawful together and have the same patterns, and the search finds the same order in
 -- them. Nothing is known of numbers that are no operations, so what is said of an operation goes over along with the fact that it is
 -- one.
 use Prim.Native.Nat.{ℕ, _<_}
 use native.Mathlib.Omega.{arith}
 use mathlib.Core.Path.{_≡_, refl, sym, _∙_}
-use mathlib.Core.Logic.{_⊎_, inl, inr, _↔_}
+use mathlib.Core.Logic.{_⊎_, inl, inr}
 use mathlib.Core.List.{List}
+use Rattle.history.specs.Object.{Queue}
 use Rattle.history.specs.History.{History, add, emptyRemove, Returned, Precedes, Lawful}
 use Rattle.history.specs.Linearization.{Listed}
 use Rattle.history.specs.Table.{Agree}
-use Rattle.history.proofs.Agreeing.{agree-sym, agree-linearization}
+use Rattle.history.proofs.Agreeing.{agree-sym}
 use Rattle.violations.specs.Violations.{Is, RemoveOf, Removed, Unknown, Twice, Early, Stuck, Overtaken, Gap, Reaches, removed, never, Covers, Covered, AllCovered, Furthest, Chain, all, link, FalseEmpty, Occurs, unknown, twice, early, stuck, overtaken, falseEmpty}
-use Rattle.violations.specs.Verdict.{FirstViolation, JudgedLinearization, Verdict}
-use Rattle.violations.specs.Found.{Due, Left, Enabled, Safe, Serves, enqueues, dequeues, meets-empty, Placeable, LastGap, Continues, ends, places, Found}
+use Rattle.violations.specs.Greedy.{Due, Left, Enabled, Placeable, Continues, ends, places}
+use Rattle.violations.specs.Found.{Safe, Serves, enqueues, dequeues, meets-empty, LastGap, Found}
 use Rattle.violations.proofs.Lists.{listed-none, listed-either, listed-here, listed-behind}
 
 -- an operation of one is an operation of the other
-agree-known : {h k : History} → Agree h k → {o : ℕ} → o < h .count → o < k .count
+pub agree-known : {h k : History} → Agree h k → {o : ℕ} → o < h .count → o < k .count
 agree-known a l = omega (arith, a .count)
 
 pub agree-lawful : {h k : History} → Agree h k → Lawful h → Lawful k
@@ -24,7 +25,8 @@ agree-lawful {h} {k} a lawful = record {
   kinds = λ o l. rw (← (a .kind o (back l))) (lawful .kinds o (back l));
   spans = λ o l. omega (arith, lawful .spans o (back l), a .call o (back l), a .ret o (back l));
   ends = λ o l. omega (arith, lawful .ends o (back l), a .ret o (back l), a .end);
-  returned = λ o l n. omega (arith, lawful .returned o (back l) (λ e. n (sym (a .kind o (back l)) ∙ e)), a .ret o (back l), a .end);
+  returned = λ o l n. omega (arith, lawful .returned o (back l) (omega (arith, a .kind o (back l))), a .ret o (back l), a .end);
+  unreturned = λ o l e r. lawful .unreturned o (back l) (a .kind o (back l) ∙ e) (omega (arith, a .ret o (back l), a .end));
   apart = λ o p l m e. lawful .apart o p (back l) (back m) (a .ret o (back l) ∙ e ∙ sym (a .call p (back m)));
   numbered = λ o p less m. omega (arith, lawful .numbered o p less (back m), a .call o (omega (arith, back m)), a .call p (back m));
   once = λ x y l m e f same. lawful .once x y (back l) (back m) (a .kind x (back l) ∙ e) (a .kind y (back m) ∙ f) (a .value x (back l) ∙ same ∙ sym (a .value y (back m)));
@@ -34,20 +36,20 @@ agree-lawful {h} {k} a lawful = record {
     back l = agree-known (agree-sym a) l
 
 -- what an operation is, whose value it removes, and what it precedes
-agree-is : {h k : History} → Agree h k → {kind o : ℕ} → Is h kind o → Is k kind o
+pub agree-is : {h k : History} → Agree h k → {kind o : ℕ} → Is h kind o → Is k kind o
 agree-is a {o = o} i = record { known = agree-known a (i .known); kinds = sym (a .kind o (i .known)) ∙ i .kinds }
 
 agree-remove-of : {h k : History} → Agree h k → {o r : ℕ} → o < h .count → RemoveOf h o r → RemoveOf k o r
 agree-remove-of a {o} {r} l out = record { removes = agree-is a (out .removes); same = sym (a .value r (out .removes .known)) ∙ out .same ∙ a .value o l }
 
-agree-removed : {h k : History} → Agree h k → {o : ℕ} → o < h .count → Removed h o → Removed k o
+pub agree-removed : {h k : History} → Agree h k → {o : ℕ} → o < h .count → Removed h o → Removed k o
 agree-removed a l (r, out) = (r, agree-remove-of a l out)
 
 -- what is never removed in one is never removed in the other
-agree-never : {h k : History} → Agree h k → {o : ℕ} → o < h .count → (Removed h o → ⊥) → Removed k o → ⊥
+pub agree-never : {h k : History} → Agree h k → {o : ℕ} → o < h .count → (Removed h o → ⊥) → Removed k o → ⊥
 agree-never a l n there = n (agree-removed (agree-sym a) (agree-known a l) there)
 
-agree-precedes : {h k : History} → Agree h k → {o p : ℕ} → o < h .count → p < h .count → Precedes h o p → Precedes k o p
+pub agree-precedes : {h k : History} → Agree h k → {o p : ℕ} → o < h .count → p < h .count → Precedes h o p → Precedes k o p
 agree-precedes a {o} {p} l m before = omega (arith, a .ret o l, a .call p m)
 
 -- how far values cover, and chains of them
@@ -113,7 +115,7 @@ agree-overtaken a t = record {
   overtakes = agree-precedes a (t .removes .removes .known) (t .removes-late .removes .known) (t .overtakes);
 }
 
-agree-occurs : {h k : History} → Agree h k → {n : ℕ} {listed : List ℕ} → Occurs h n listed → Occurs k n listed
+pub agree-occurs : {h k : History} → Agree h k → {n : ℕ} {listed : List ℕ} → Occurs Queue h n listed → Occurs Queue k n listed
 agree-occurs a (unknown u) = unknown (agree-unknown a u)
 agree-occurs a (twice t) = twice (agree-twice a t)
 agree-occurs a (early t) = early (agree-early a t)
@@ -121,29 +123,13 @@ agree-occurs a (stuck t) = stuck (agree-stuck a t)
 agree-occurs a (overtaken t) = overtaken (agree-overtaken a t)
 agree-occurs a (falseEmpty t) = falseEmpty (agree-false-empty a t)
 
--- verdicts
-agree-first-violation : {h k : History} → Agree h k → {n : ℕ} {listed : List ℕ} → FirstViolation h n listed → FirstViolation k n listed
-agree-first-violation a f = record {
-  occurs = agree-occurs a (f .occurs);
-  lowest-number = λ n other less there. f .lowest-number n other less (agree-occurs (agree-sym a) there);
-  lowest-list = λ other there. f .lowest-list other (agree-occurs (agree-sym a) there);
-}
-
-agree-judged : {h k : History} → Agree h k → {order : List ℕ} → JudgedLinearization h order → JudgedLinearization k order
-agree-judged {h} {k} a {order} judged = record { legal = agree-linearization a order (judged .legal); pending = λ o l n. pending (agree-known (agree-sym a) l) n }
-  where
-    pending : {o : ℕ} → o < h .count → (Returned k o → ⊥) → Listed order o ↔ Removed k o
-    pending {o} l n =
-        let same = judged .pending o l (λ returned. n (omega (arith, a .ret o l, a .end))) in
-        (λ listed. agree-removed a l (same .0 listed), λ there. same .1 (agree-removed (agree-sym a) (agree-known a l) there))
-
-pub agree-verdict : {h k : History} → Agree h k → {byte : ℕ} {listed : List ℕ} → Verdict h byte listed → Verdict k byte listed
-agree-verdict a (Verdict.linearization x) = Verdict.linearization (agree-judged a x)
-agree-verdict a (Verdict.violation x) = Verdict.violation (agree-first-violation a x)
-
 -- what is left, and what is enabled
 agree-due : {h k : History} → Agree h k → {o : ℕ} → Due h o → Due k o
-agree-due {h} {k} a {o} due = record { known = agree-known a (due .known); listed = go (due .listed) }
+agree-due {h} {k} a {o} due = record {
+  known = agree-known a (due .known);
+  kinded = omega (arith, due .kinded, a .kind o (due .known));
+  listed = go (due .listed);
+}
   where
     go : Returned h o ⊎ Removed h o → Returned k o ⊎ Removed k o
     go (inl returned) = inl (omega (arith, a .ret o (due .known), a .end))
@@ -191,7 +177,7 @@ agree-safe a same {o = o} is safe = record {
 }
 
 agree-placeable : {h k : History} → Agree h k → {reach gap reach' gap' : ℕ → ℕ} → SameTables h reach gap reach' gap' → {order queue queue' : List ℕ} {o : ℕ} → KnownQueue h queue
-    → Placeable h reach gap order queue o queue' → Placeable k reach' gap' order queue o queue'
+    → Placeable h (Serves h reach gap) order queue o queue' → Placeable k (Serves k reach' gap') order queue o queue'
 agree-placeable {h} {k} a {reach} {gap} {reach'} {gap'} same {order} {o = o} known p = record { enabled = agree-enabled a (p .enabled); serves = go known (p .serves) }
   where
     here : o < h .count
@@ -207,7 +193,7 @@ agree-placeable {h} {k} a {reach} {gap} {reach'} {gap'} same {order} {o = o} kno
 
 -- so the search goes on alike in both
 pub agree-continues : {h k : History} → Agree h k → {reach gap reach' gap' : ℕ → ℕ} → SameTables h reach gap reach' gap' → {order queue more : List ℕ} → KnownQueue h queue
-    → Continues h reach gap order queue more → Continues k reach' gap' order queue more
+    → Continues h (Serves h reach gap) order queue more → Continues k (Serves k reach' gap') order queue more
 agree-continues a same known (ends none) = ends (λ o left. none o (agree-left (agree-sym a) left))
 agree-continues a same known (places p lowest rest) =
     places (agree-placeable a same known p)

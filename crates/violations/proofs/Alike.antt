@@ -5,9 +5,10 @@ use mathlib.Core.Path.{_≡_, refl, sym, ap, _∙_}
 use mathlib.Core.Logic.{Iff·symm}
 use mathlib.Core.List.{List}
 use Rattle.history.specs.Each.{Each}
+use Rattle.history.specs.Object.{Object}
 use Rattle.history.specs.History.{History, Lawful}
 use Rattle.violations.specs.Violations.{Occurs}
-use Rattle.violations.specs.Verdict.{Verdict}
+use Rattle.violations.specs.Verdict.{CompleteVerdict}
 use Rattle.violations.specs.Parts.{HasValue, Part, Kept, Alike}
 use Rattle.violations.proofs.Occurrences.{occurs-known}
 use Rattle.violations.proofs.Parts.{part-verdict}
@@ -32,7 +33,7 @@ alike-sym {h} {k} a = record {
     kinds o l = rw (a .forth o l) at (sym (a .kind (a .from o) (a .from-known o l)))
 
     valued : {o : ℕ} → HasValue k o → HasValue h (a .from o)
-    valued {o} x = record { known = a .from-known o (x .known); valued = λ e. x .valued (sym (kinds o (x .known)) ∙ e) }
+    valued {o} x = record { known = a .from-known o (x .known); valued = rw (kinds o (x .known)) (x .valued) }
 
 -- Each of two histories that are alike is a part of the other.
 pub alike-part : {h k : History} → Alike h k → Part k h
@@ -48,12 +49,15 @@ alike-part a = record {
 }
 
 -- All that a pattern lists is kept.
-alike-keeps : {h k : History} (a : Alike h k) → {n : ℕ} {listed : List ℕ} → Occurs k n listed → Each (Kept (alike-part a)) listed
+alike-keeps : {object : Object} {h k : History} (a : Alike h k) → {n : ℕ} {listed : List ℕ} → Occurs object k n listed → Each (Kept (alike-part a)) listed
 unfolding alike-part
 alike-keeps a {listed = listed} x = each-map (λ o l. (a .from o, record { known = a .from-known o l; is = a .forth o l })) listed (occurs-known x)
 
 -- The verdict byte is the same.
-pub alike-verdict : {h k : History} → Lawful h → Lawful k → Alike h k → {m n : ℕ} {xs ys : List ℕ} → Verdict h m xs → Verdict k n ys → m ≡ n
-alike-verdict laws-h laws-k a (Verdict.linearization x) (Verdict.linearization y) = refl
-alike-verdict laws-h laws-k a (Verdict.violation x) y = part-verdict (alike-part (alike-sym a)) laws-h laws-k x (alike-keeps (alike-sym a) (x .occurs)) y
-alike-verdict laws-h laws-k a (Verdict.linearization x) (Verdict.violation y) = sym (part-verdict (alike-part a) laws-k laws-h y (alike-keeps a (y .occurs)) (Verdict.linearization x))
+pub alike-complete-verdict : {object : Object} {h k : History} → Lawful h → Lawful k → Alike h k → {m n : ℕ} {xs ys : List ℕ}
+    → CompleteVerdict object h m xs → CompleteVerdict object k n ys → m ≡ n
+alike-complete-verdict laws-h laws-k a (CompleteVerdict.linearization x) (CompleteVerdict.linearization y) = refl
+alike-complete-verdict laws-h laws-k a (CompleteVerdict.violation x) y =
+    part-verdict (alike-part (alike-sym a)) laws-h laws-k x (alike-keeps (alike-sym a) (x .occurs)) y
+alike-complete-verdict laws-h laws-k a (CompleteVerdict.linearization x) (CompleteVerdict.violation y) =
+    sym (part-verdict (alike-part a) laws-k laws-h y (alike-keeps a (y .occurs)) (CompleteVerdict.linearization x))

@@ -1,21 +1,20 @@
--- Which tables are fit for the search, and that it places no more operations than there are.
+-- Which tables are fit for the search.
 use Prim.Native.Nat.{ℕ, _≤_, _<_}
 use native.Mathlib.Omega.{arith}
 use mathlib.Core.Path.{_≡_, sym}
 use mathlib.Core.Logic.{Dec·and}
 use mathlib.Core.List.{List, [], _∷_}
-use lib.ListN.{length}
+use Rattle.history.specs.Object.{Queue}
 use Rattle.history.specs.History.{History, add, remove, emptyRemove, Precedes, Lawful}
-use Rattle.history.specs.Linearization.{placed}
-use Rattle.history.proofs.Counting.{different-are-few}
 use Rattle.violations.specs.Violations.{Is, RemoveOf, Gap, Reaches, removed, never, Covered, Occurs, unknown, twice, early, stuck, overtaken}
-use Rattle.violations.specs.Search.{Matched, Sound, Searched}
+use Rattle.violations.specs.Search.{Matched, Sound}
 use Rattle.history.proofs.Deciding.{some?}
 use Rattle.violations.proofs.Operations.{precedes-unless-after, is?, remove-of?}
 
 -- Tables are fit for the search where no pattern occurs: `reach` has to tell how far the value of each add covers, and `gap`
 -- a gap of each empty remove that no value covers. What is said of `reach` needs only that patterns 1 and 2 do not occur.
-pub tables-match : {h : History} {reach : ℕ → ℕ} → ((a : ℕ) → Is h add a → Reaches h a (reach a)) → ((n : ℕ) (listed : List ℕ) → n < 3 → Occurs h n listed → ⊥) → Matched h reach
+pub tables-match : {h : History} {reach : ℕ → ℕ} → ((a : ℕ) → Is h add a → Reaches h a (reach a))
+    → ((n : ℕ) (listed : List ℕ) → n < 3 → Occurs Queue h n listed → ⊥) → Matched h reach
 tables-match {h} reaches clean = record { reaches = reaches; named = λ r removes. named removes (some? (Adder r) (λ a. Dec·and (is? h add a) (remove-of? h a r)) (h .count) (λ a adder. adder .0 .known)); single = single }
   where
     Adder : ℕ → ℕ → Type 0
@@ -31,7 +30,8 @@ tables-match {h} reaches clean = record { reaches = reaches; named = λ r remove
         let not-higher : s < r → ⊥ = λ l. clean 2 (s ∷ r ∷ []) (omega arith) (twice (record { first = second; second = first; lower = l; same = sym same })) in
         omega arith
 
-pub tables-fit : {h : History} {reach gap : ℕ → ℕ} → Lawful h → ((a : ℕ) → Is h add a → Reaches h a (reach a)) → ((n : ℕ) (listed : List ℕ) → n < 6 → Occurs h n listed → ⊥)
+pub tables-fit : {h : History} {reach gap : ℕ → ℕ} → Lawful h → ((a : ℕ) → Is h add a → Reaches h a (reach a))
+    → ((n : ℕ) (listed : List ℕ) → n < 6 → Occurs Queue h n listed → ⊥)
     → ((e : ℕ) → Is h emptyRemove e → Gap h e (gap e)) → ((e : ℕ) → Is h emptyRemove e → Covered h (gap e) → ⊥)
     → Sound h reach gap
 tables-fit {h} {reach} lawful reaches clean gaps uncovered = record {
@@ -56,7 +56,3 @@ tables-fit {h} {reach} lawful reaches clean gaps uncovered = record {
         clean 5 (a ∷ b ∷ r ∷ s ∷ []) (omega arith) (overtaken (record { first = first; second = second; added-before = before; removes = out; removes-late = off; overtakes = late })) in
         let not-after : h .ret r ≤ h .call s → ⊥ = λ l. not-overtaken (precedes-unless-after lawful (out .removes .known) (off .removes .known) l) in
         omega arith
-
--- the search has placed no more operations than there are
-pub search-few : {h : History} {reach gap : ℕ → ℕ} {order queue : List ℕ} → Searched h reach gap order queue → length order ≤ h .count
-search-few {h} {order = order} s = different-are-few (placed order) (length order) (h .count) (λ i l. s .due i l .known) (s .once)

@@ -39,8 +39,8 @@ excerpt = record {
 
     whole : (o : ℕ) → HasValue (empties 3 6) o → (q : ℕ) × KeptAs (empties 2 4) (λ o. o) o q
     whole zero x = (0, record { known = omega arith; is = refl })
-    whole (suc zero) x = absurd (x .valued refl)
-    whole (suc (suc zero)) x = absurd (x .valued refl)
+    whole (suc zero) x = absurd (omega (arith, x .valued .1))
+    whole (suc (suc zero)) x = absurd (omega (arith, x .valued .1))
     whole (suc (suc (suc o))) x = absurd (omega (arith, x .known))
 
 -- R( A7( R7) A7) and A9( R( R9) A9): the two calls have traded places, and the value is another

@@ -4,12 +4,14 @@ use native.Mathlib.Omega.{arith}
 use mathlib.Core.Path.{_≡_, refl, sym, ap, _∙_}
 use mathlib.Core.List.{List}
 use lib.ListN.{length}
+use Rattle.history.specs.Object.{Queue}
 use Rattle.history.specs.History.{History, add, remove, emptyRemove, Precedes, Lawful}
-use Rattle.history.specs.Linearization.{placed, Listed, Linearization}
+use Rattle.history.specs.Linearization.{placed, Listed, CompleteLinearization}
 use Rattle.violations.specs.Violations.{Is, RemoveOf, Unknown, Twice, Early, Stuck, Overtaken, Gap, Reaches, removed, never, Covers, Covered, FalseEmpty, Occurs, unknown, twice, early, stuck, overtaken, falseEmpty}
 use Rattle.violations.proofs.Choosing.{Best, best-of, greater}
 use Rattle.violations.proofs.Pairing.{rank, rank-passed, Source, source, Taken, taken, taken-before-empty}
 use Rattle.violations.proofs.Operations.{precedes-unless-after, is-returned, same-adder}
+use Rattle.violations.proofs.Orderings.{same-place, in-order}
 
 -- The witness gap of an empty remove: it lies behind the latest call among the empty remove and what is listed before it.
 -- Whatever was added up to there is listed before, and so was removed: no value covers the gap.
@@ -24,38 +26,21 @@ pub record Witness (h : History) (order : List ℕ) (e : ℕ) : Type 0 where
   pub lies : Gap h e gap
   pub uncovered : Covered h gap → ⊥
 
-module _ {h : History} (lawful : Lawful h) {order : List ℕ} (legal : Linearization h order) where
-  -- one operation stands at one place
-  same-place : (i j : ℕ) → i < length order → j < length order → placed order i ≡ placed order j → i ≡ j
-  same-place i j l m e =
-      let not-before : i < j → ⊥ = λ b. legal .once i j b m e in
-      let not-behind : j < i → ⊥ = λ b. legal .once j i b l (sym e) in
-      omega arith
-
-  -- what precedes comes before
-  in-order : {o p : ℕ} → Precedes h o p → (a : Listed order o) (b : Listed order p) → a .at < b .at
-  in-order {o} {p} precedes a b =
-      let not-behind : b .at < a .at → ⊥ = λ l. legal .keeps (b .at) (a .at) l (a .below) (rw (a .here, b .here) precedes) in
-      let not-here : a .at ≡ b .at → ⊥ = λ e. itself (sym (a .here) ∙ ap (placed order) e ∙ b .here) in
-      omega arith
-    where
-      itself : o ≡ p → ⊥
-      itself e = omega (arith, ap (h .call) e, lawful .spans o (rw (a .here) at (legal .known (a .at) (a .below))))
-
+module _ {h : History} (lawful : Lawful h) {order : List ℕ} (legal : CompleteLinearization h order) where
   -- a remove, with the add whose value it takes: both are listed, and the one has the rank of the other
-  record Served (r : ℕ) : Type 0 where
-    adder : ℕ
-    adds : Is h add adder
-    removes : RemoveOf h adder r
-    adding : Listed order adder
-    removing : Listed order r
-    before : adding .at < removing .at
-    ranks : rank h order add (adding .at) ≡ rank h order remove (removing .at)
+  pub record Served (r : ℕ) : Type 0 where
+    pub adder : ℕ
+    pub adds : Is h add adder
+    pub removes : RemoveOf h adder r
+    pub adding : Listed order adder
+    pub removing : Listed order r
+    pub before : adding .at < removing .at
+    pub ranks : rank h order add (adding .at) ≡ rank h order remove (removing .at)
 
-  served : {r : ℕ} → Is h remove r → Served r
+  pub served : {r : ℕ} → Is h remove r → Served r
   served {r} removes = record {
     adder = placed order (s .at);
-    adds = record { known = legal .known (s .at) below; kinds = s .adds-here };
+    adds = record { known = legal .ordering .known (s .at) below; kinds = s .adds-here };
     removes = record { removes = removes; same = sym (s .same ∙ ap (h .value) (l .here)) };
     adding = record { at = s .at; below = below; here = refl };
     removing = l;
@@ -64,7 +49,7 @@ module _ {h : History} (lawful : Lawful h) {order : List ℕ} (legal : Lineariza
   }
     where
       l : Listed order r
-      l = legal .every r (removes .known) (is-returned lawful removes (omega arith))
+      l = legal .ordering .every r (removes .known) (is-returned lawful removes (omega arith))
 
       s : Source h order (l .at)
       s = source h order (legal .runs) (l .at) (l .below) (ap (h .kind) (l .here) ∙ removes .kinds)
@@ -73,10 +58,10 @@ module _ {h : History} (lawful : Lawful h) {order : List ℕ} (legal : Lineariza
       below = omega (arith, s .below, l .below)
 
   -- it is the only add of the value, and the remove is the only one
-  adder-is : {a r : ℕ} → Is h add a → RemoveOf h a r → (s : Served r) → s .adder ≡ a
+  pub adder-is : {a r : ℕ} → Is h add a → RemoveOf h a r → (s : Served r) → s .adder ≡ a
   adder-is adds removes s = same-adder lawful (s .adds) adds (s .removes) removes
 
-  single : {r s : ℕ} → Is h remove r → Is h remove s → h .value r ≡ h .value s → r ≡ s
+  pub single : {r s : ℕ} → Is h remove r → Is h remove s → h .value r ≡ h .value s → r ≡ s
   single {r} {s} first second e =
       let not-before : x .removing .at < y .removing .at → ⊥ = λ b. omega (arith, later first (x .removing) (y .removing) b, same) in
       let not-behind : y .removing .at < x .removing .at → ⊥ = λ b. omega (arith, later second (y .removing) (x .removing) b, same) in
@@ -92,16 +77,21 @@ module _ {h : History} (lawful : Lawful h) {order : List ℕ} (legal : Lineariza
       adders : x .adder ≡ y .adder
       adders = sym (adder-is (x .adds) (record { removes = second; same = sym e ∙ x .removes .same }) y)
 
+      places : x .adding .at ≡ y .adding .at
+      places =
+          same-place (legal .ordering) (x .adding .at) (y .adding .at) (x .adding .below) (y .adding .below)
+          (x .adding .here ∙ adders ∙ sym (y .adding .here))
+
       same : rank h order remove (x .removing .at) ≡ rank h order remove (y .removing .at)
-      same = sym (x .ranks) ∙ ap (rank h order add) (same-place (x .adding .at) (y .adding .at) (x .adding .below) (y .adding .below) (x .adding .here ∙ adders ∙ sym (y .adding .here))) ∙ y .ranks
+      same = sym (x .ranks) ∙ ap (rank h order add) places ∙ y .ranks
 
       later : {r s : ℕ} → Is h remove r → (l : Listed order r) (m : Listed order s) → l .at < m .at → rank h order remove (l .at) < rank h order remove (m .at)
       later removes l m b = rank-passed h order remove (l .at) (m .at) b (ap (h .kind) (l .here) ∙ removes .kinds)
 
   -- the remove that has taken the value of an add
-  taken-out : {a k : ℕ} (l : Listed order a) (t : Taken h order (l .at) k) → k ≤ length order → RemoveOf h a (placed order (t .at))
+  pub taken-out : {a k : ℕ} (l : Listed order a) (t : Taken h order (l .at) k) → k ≤ length order → RemoveOf h a (placed order (t .at))
   taken-out l t b = record {
-    removes = record { known = legal .known (t .at) (omega (arith, t .below)); kinds = t .removes-here };
+    removes = record { known = legal .ordering .known (t .at) (omega (arith, t .below)); kinds = t .removes-here };
     same = t .same ∙ ap (h .value) (l .here);
   }
 
@@ -115,17 +105,17 @@ module _ {h : History} (lawful : Lawful h) {order : List ℕ} (legal : Lineariza
   earlier {a} {b} {r} first second before removes = record {
     remover = placed order (t .at);
     removes = taken-out l t (omega (arith, s .removing .below));
-    kept = λ precedes. legal .keeps (t .at) (s .removing .at) (t .below) (s .removing .below) (rw (s .removing .here) precedes);
+    kept = λ precedes. legal .ordering .keeps (t .at) (s .removing .at) (t .below) (s .removing .below) (rw (s .removing .here) precedes);
   }
     where
       s : Served r
       s = served (removes .removes)
 
       l : Listed order a
-      l = legal .every a (first .known) (omega (arith, lawful .spans b (second .known), lawful .ends b (second .known)))
+      l = legal .ordering .every a (first .known) (omega (arith, lawful .spans b (second .known), lawful .ends b (second .known)))
 
       ahead : l .at < s .adding .at
-      ahead = in-order before l (rw (adder-is second removes s) at (s .adding))
+      ahead = in-order (legal .ordering) lawful before l (rw (adder-is second removes s) at (s .adding))
 
       t : Taken h order (l .at) (s .removing .at)
       t = taken h order (legal .runs) (l .at) (s .removing .at) (omega (arith, ahead, s .before)) (omega (arith, s .removing .below)) (ap (h .kind) (l .here) ∙ first .kinds)
@@ -142,7 +132,7 @@ module _ {h : History} (lawful : Lawful h) {order : List ℕ} (legal : Lineariza
   excludes-early {r} {a} e =
       let s : Served r = served (e .removes .removes) in
       let here : s .adder ≡ a = adder-is (e .adds) (e .removes) s in
-      omega (arith, s .before, in-order (rw here (e .before)) (s .removing) (s .adding))
+      omega (arith, s .before, in-order (legal .ordering) lawful (rw here (e .before)) (s .removing) (s .adding))
 
   excludes-stuck : {a b r : ℕ} → Stuck h a b r → ⊥
   excludes-stuck s = let e = earlier (s .first) (s .second) (s .before) (s .removes) in s .never (e .remover, e .removes)
@@ -172,7 +162,7 @@ module _ {h : History} (lawful : Lawful h) {order : List ℕ} (legal : Lineariza
   }
     where
       l : Listed order e
-      l = legal .every e (empties .known) (is-returned lawful empties (omega arith))
+      l = legal .ordering .every e (empties .known) (is-returned lawful empties (omega arith))
 
       s : Best (λ i. Unit {0}) NoEarlier (l .at + 1)
       s = latest (l .at)
@@ -184,7 +174,8 @@ module _ {h : History} (lawful : Lawful h) {order : List ℕ} (legal : Lineariza
       before : {o : ℕ} → o < h .count → h .ret o ≤ h .call (placed order (s .at)) → (m : Listed order o) → m .at < l .at
       before known returns m =
           let there : s .at < length order = omega (arith, s .below, l .below) in
-          omega (arith, s .below, in-order (precedes-unless-after lawful known (legal .known (s .at) there) returns) m (record { at = s .at; below = there; here = refl }))
+          let precedes = precedes-unless-after lawful known (legal .ordering .known (s .at) there) returns in
+          omega (arith, s .below, in-order (legal .ordering) lawful precedes m (record { at = s .at; below = there; here = refl }))
 
       until : g < h .ret e
       until = let not-before : h .ret e ≤ h .call (placed order (s .at)) → ⊥ = λ b. omega (arith, before (empties .known) b l) in omega arith
@@ -193,7 +184,7 @@ module _ {h : History} (lawful : Lawful h) {order : List ℕ} (legal : Lineariza
       uncovered {a} {reach} c = go (c .reaches)
         where
           m : Listed order a
-          m = legal .every a (c .adds .known) (omega (arith, c .from, until, lawful .ends e (empties .known)))
+          m = legal .ordering .every a (c .adds .known) (omega (arith, c .from, until, lawful .ends e (empties .known)))
 
           t : Taken h order (m .at) (l .at)
           t = taken-before-empty h order (legal .runs) (m .at) (l .at) (before (c .adds .known) (c .from) m) (l .below) (ap (h .kind) (m .here) ∙ c .adds .kinds) (ap (h .kind) (l .here) ∙ empties .kinds)
@@ -209,7 +200,7 @@ module _ {h : History} (lawful : Lawful h) {order : List ℕ} (legal : Lineariza
   excludes-false-empty f = let w = witness-gap (f .empties) in w .uncovered (f .covered (w .gap) (w .lies))
 
 -- the theorem: no pattern occurs where there is a legal order
-pub excluded : {h : History} → Lawful h → {order : List ℕ} → Linearization h order → {n : ℕ} {listed : List ℕ} → Occurs h n listed → ⊥
+pub excluded : {h : History} → Lawful h → {order : List ℕ} → CompleteLinearization h order → {n : ℕ} {listed : List ℕ} → Occurs Queue h n listed → ⊥
 excluded lawful legal (unknown u) = excludes-unknown lawful legal u
 excluded lawful legal (twice t) = excludes-twice lawful legal t
 excluded lawful legal (early e) = excludes-early lawful legal e

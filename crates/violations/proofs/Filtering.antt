@@ -7,7 +7,8 @@ use mathlib.Core.Logic.{Dec·and}
 use mathlib.Core.List.{List, [], _∷_, _++_, append-nil}
 use lib.ListN.{length}
 use Rattle.history.specs.History.{History}
-use Rattle.history.specs.Linearization.{Makes, puts, takes, meets, Fifo, done, then, placed, Listed, Linearization}
+use Rattle.history.specs.RunFrom.{done, then}
+use Rattle.history.specs.Linearization.{Makes, puts, takes, meets, Fifo, placed, Listed, Ordering, CompleteLinearization}
 use Rattle.history.proofs.Deciding.{equivalent?, some?}
 use Rattle.violations.specs.Parts.{HasValue, KeptAs, Part, Kept, Filtered, none, kept, dropped}
 use Rattle.violations.proofs.Lists.{listed-behind}
@@ -87,18 +88,22 @@ thinned-append (goes n rest) t = goes n (thinned-append rest t)
 -- What a kept operation makes of the queue, its counterpart makes of the part's queue.
 kept-makes : {h part : History} {p : Part h part} {q : ℕ} {queue queue' thin : List ℕ} → q < part .count → Makes h (p .to q) queue queue' → Thinned p queue thin
     → (thin' : List ℕ) × Makes part q thin thin' × Thinned p queue' thin'
-kept-makes {part} {p} {q} {thin} l (puts a) t =
-    (thin ++ (part .value q ∷ []), puts (sym (p .kind q l) ∙ a), thinned-append t (stays (has-value l (omega (arith, p .kind q l))) refl refl nothing))
+kept-makes {part} {p} {q} {thin} l (puts a) t = (
+  thin ++ (part .value q ∷ []),
+  puts (sym (p .kind q l) ∙ a),
+  thinned-append t (stays (has-value l (omega (arith, p .kind q l)) (omega (arith, p .kind q l))) refl refl nothing),
+)
 kept-makes {p} {q} l (takes r v) (stays {q = s} {thin = thin} x e f rest) =
-    (thin, takes (sym (p .kind q l) ∙ r) (p .value q s (has-value l (omega (arith, p .kind q l))) x .0 (v ∙ sym e) ∙ f), rest)
-kept-makes {p} {q} l (takes r v) (goes n rest) = absurd (n q (has-value l (omega (arith, p .kind q l))) v)
+    (thin, takes (sym (p .kind q l) ∙ r) (p .value q s (has-value l (omega (arith, p .kind q l)) (omega (arith, p .kind q l))) x .0 (v ∙ sym e) ∙ f), rest)
+kept-makes {p} {q} l (takes r v) (goes n rest) = absurd (n q (has-value l (omega (arith, p .kind q l)) (omega (arith, p .kind q l))) v)
 kept-makes {p} {q} l (meets e) nothing = ([], meets (sym (p .kind q l) ∙ e), nothing)
 
 -- An operation that is not kept makes nothing of the part's queue, since its value is that of no kept operation.
 dropped-makes : {h part : History} {p : Part h part} {o : ℕ} {queue queue' thin : List ℕ} → o < h .count → (Kept p o → ⊥) → Makes h o queue queue' → Thinned p queue thin
     → Thinned p queue' thin
-dropped-makes {p} {o} l n (puts a) t = rw append-nil at (thinned-append t (goes (λ q x e. n (p .whole o q (has-value l (omega arith)) x (sym e))) nothing))
-dropped-makes {p} {o} l n (takes r v) (stays {q = q} x e f rest) = absurd (n (p .whole o q (has-value l (omega arith)) x (v ∙ sym e)))
+dropped-makes {p} {o} l n (puts a) t =
+    rw append-nil at (thinned-append t (goes (λ q x e. n (p .whole o q (has-value l (omega arith) (omega arith)) x (sym e))) nothing))
+dropped-makes {p} {o} l n (takes r v) (stays {q = q} x e f rest) = absurd (n (p .whole o q (has-value l (omega arith) (omega arith)) x (v ∙ sym e)))
 dropped-makes l n (takes r v) (goes m rest) = rest
 dropped-makes l n (meets e) nothing = nothing
 
@@ -112,19 +117,26 @@ filtered-runs {p} known (kept {q = q} s rest) (then made run) t =
 filtered-runs known (dropped n rest) (then made run) t =
     filtered-runs (λ i k. known (suc i) (omega arith)) rest run (dropped-makes (known 0 (omega arith)) n made t)
 
--- A legal order, filtered, is a legal order of the part.
-pub part-linearization : {h part : History} (p : Part h part) {order filtered : List ℕ} → Filtered p order filtered → Linearization h order → Linearization part filtered
-part-linearization p {order} {filtered} f legal = record {
+-- What is left keeps the order.
+filtered-ordering : {h part : History} (p : Part h part) {order filtered : List ℕ} → Filtered p order filtered → Ordering h order → Ordering part filtered
+filtered-ordering p {order} {filtered} f o = record {
   known = filtered-known f;
   every = λ q known returned.
-      let there : Listed order (p .to q) = legal .every (p .to q) (p .known q known) (p .returned q known .1 returned) in
+      let there : Listed order (p .to q) = o .every (p .to q) (p .known q known) (p .returned q known .1 returned) in
       filtered-listed f q known (there .at) (there .below) (there .here);
   once = λ i j before below same.
-      legal .once (place f i) (place f j) (place-rises f i j before) (place-is f j below .0)
+      o .once (place f i) (place f j) (place-rises f i j before) (place-is f j below .0)
       (place-is f i (omega arith) .1 ∙ ap (p .to) same ∙ sym (place-is f j below .1));
   keeps = λ i j before below precedes.
-      legal .keeps (place f i) (place f j) (place-rises f i j before) (place-is f j below .0)
+      o .keeps (place f i) (place f j) (place-rises f i j before) (place-is f j below .0)
       (rw (place-is f i (omega arith) .1, place-is f j below .1)
       (p .precedes (placed filtered j) (placed filtered i) (filtered-known f j below) (filtered-known f i (omega arith)) .1 precedes));
-  runs = filtered-runs (legal .known) f (legal .runs) nothing;
+}
+
+-- A legal order, filtered, is a legal order of the part.
+pub part-linearization : {h part : History} (p : Part h part) {order filtered : List ℕ} → Filtered p order filtered → CompleteLinearization h order
+    → CompleteLinearization part filtered
+part-linearization p f legal = record {
+  ordering = filtered-ordering p f (legal .ordering);
+  runs = filtered-runs (legal .ordering .known) f (legal .runs) nothing;
 }

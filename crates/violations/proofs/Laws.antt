@@ -1,84 +1,120 @@
 -- The theorems of this crate, for everything above: stated here, or passed on from the file that proves them. The histories of
 -- readable logs are lawful (`history-lawful` of the crate history), so all of this holds of every readable log.
 use Prim.Native.Nat.{ℕ}
-use native.Mathlib.Omega.{arith}
 use native.Mathlib.Decide.{ℕ-discrete}
-use mathlib.Core.Path.{_≡_, refl, sym, _∙_}
+use mathlib.Core.Path.{_≡_, sym, _∙_}
 use mathlib.Core.Logic.{_⊎_, inl, inr, _↔_}
 use mathlib.Core.List.{List}
-use Rattle.history.specs.History.{History, Lawful}
-use Rattle.history.specs.Linearization.{Linearization}
+use Rattle.history.specs.Each.{Each}
+use Rattle.history.specs.Object.{Object, Queue, Cell}
+use Rattle.history.specs.History.{History, RemovesReturned, Lawful}
+use Rattle.history.specs.Linearization.{Linearization, CompleteLinearization}
 use Rattle.history.specs.Sheet.{orderVerdict}
 use Rattle.violations.specs.Violations.{NoViolation}
-use Rattle.violations.specs.Verdict.{FirstViolation, JudgedLinearization, Verdict}
+use Rattle.violations.specs.Verdict.{FirstViolation, JudgedLinearization, CompleteVerdict, Verdict}
+use Rattle.violations.specs.Parts.{Part, Kept}
 use Rattle.violations.specs.Search.{Single}
 use Rattle.violations.specs.Found.{Found}
-use Rattle.violations.proofs.Occurrences.{occurs-numbered}
+use Rattle.violations.proofs.Occurrences.{occurs-some}
+use Rattle.violations.proofs.Parts as parts
 -- "The lowest number that occurs is reported. Among its occurrences the lowest list": there is such an answer where a pattern
 -- occurs, and two answers that meet this are equal.
-pub use Rattle.violations.proofs.Deciding.{SomeViolation, first-violation, first-violation-one}
--- A pattern has a number from 1 to 6, and lists operations of the history.
-pub use Rattle.violations.proofs.Occurrences.{occurs-numbered, occurs-known}
+pub use Rattle.violations.proofs.FirstViolations.{SomeViolation, first-violation, first-violation-one}
+-- A pattern of a queue has a number from 1 to 6, one of a cell from 7 to 10; it lists operations of the history, and each has a
+-- kind.
+pub use Rattle.violations.proofs.Occurrences.{lowestNumber, highestNumber, occurs-numbered, occurs-kinded, occurs-known}
 -- An empty remove has all its gaps covered exactly if there is a chain, and there is only one.
 pub use Rattle.violations.proofs.Chains.{chained-exactly, chain-one}
--- A legal order rules every pattern out, and gives each empty remove a witness gap.
+-- A legal order of a queue's history that leaves a pending remove out rules every pattern out, and gives each empty remove a
+-- witness gap. So does any legal order of a cell's history.
 pub use Rattle.violations.proofs.Excluding.{Witness, witness-gap, excluded}
--- A verdict lists at most 682 operations, if there are at most 1,024 records.
-pub use Rattle.violations.proofs.Lengths.{ReturnsApart, listed-at-most}
--- Their numbers are below 1,024, and the verdict byte is below 10.
-pub use Rattle.violations.proofs.Bounds.{verdict-known, verdict-small}
--- The search for an order: it starts, may place whatever is placeable, goes on while something is left, and ends with a legal
--- order that lists an open add exactly if its value was removed; and which tables serve it.
+pub use Rattle.violations.proofs.CellExcluding.{cell-excluded}
+-- An order as the judge lists it leaves a pending remove out, and lists just what is to be listed.
+pub use Rattle.violations.proofs.Judged.{judged-complete, judged-due, due-judged, returned-due}
+-- It rules every pattern out, and one exists exactly if no pattern occurs; where none occurs, there is a lowest one, and only one.
+pub use Rattle.violations.proofs.CompleteVerdicts.{judged-excluded, judged-exactly, lowest-exists, lowest-one}
+-- A verdict lists at most 682 operations, if there are at most 1,024 records. Their numbers are below 1,024, and the verdict byte
+-- on a queue is below 10.
+pub use Rattle.violations.proofs.Lengths.{ReturnsApart, Positions, complete-at-most, listed-at-most}
+pub use Rattle.violations.proofs.Bounds.{verdict-known, verdict-small, complete-small}
+-- The search for an order of a queue's history: it starts, may place whatever is placeable, goes on while something is left, and
+-- ends with a legal order that lists an open add exactly if its value was removed; and which tables serve it.
 pub use Rattle.violations.proofs.Placing.{search-starts, search-places, search-ends}
 pub use Rattle.violations.proofs.Progress.{search-goes-on}
 pub use Rattle.violations.proofs.Constructing.{tables-match, tables-fit}
--- Where no pattern occurs, it finds such an order, and only one.
+-- Where no pattern occurs, it finds such an order, and only one. It is the lowest.
 pub use Rattle.violations.proofs.Finding.{found-one, found-exists}
+pub use Rattle.violations.proofs.QueueLowest.{found-lowest}
+-- The same of the search for an order of a cell's history.
+pub use Rattle.violations.proofs.CellPlacing.{cell-starts, cell-places, cell-ends}
+pub use Rattle.violations.proofs.CellProgress.{cell-goes-on}
+pub use Rattle.violations.proofs.CellFinding.{clean-sound, cell-found-exists}
+pub use Rattle.violations.proofs.CellLowest.{cell-found-lowest}
 -- Parts of a history, and histories that are alike.
 pub use Rattle.violations.proofs.Filtering.{filter, part-linearization}
-pub use Rattle.violations.proofs.Corresponding.{part-violations}
-pub use Rattle.violations.proofs.Parts.{part-covered, part-keeps, part-verdict}
-pub use Rattle.violations.proofs.Alike.{alike-sym, alike-part, alike-verdict}
+pub use Rattle.violations.proofs.Parts.{part-violations, part-covered, part-keeps}
+pub use Rattle.violations.proofs.Alike.{alike-sym, alike-part}
 -- Histories that agree on their operations are lawful together and have the same verdicts, and the search finds the same order in
 -- them.
-pub use Rattle.violations.proofs.Agreeing.{agree-lawful, agree-verdict, agree-found}
+pub use Rattle.violations.proofs.Agreeing.{agree-lawful, agree-found}
+pub use Rattle.violations.proofs.AgreeingVerdicts.{agree-complete-verdict, agree-verdict}
+-- A remove of a queue that has not returned: a legal order exists exactly if there is one with it left out or with one of its
+-- fates; at most one fate can succeed where leaving it out fails, and only that of the add which returns first of those that are
+-- not removed, under patterns 4 and 6.
+pub use Rattle.violations.proofs.OpenRemoves.{linearization-exactly}
+pub use Rattle.violations.proofs.Fates.{Mends}
+pub use Rattle.violations.proofs.Candidate.{fate-mends, fate-one, others-stay, none-helps, it-settles, it-helps, it-fails}
+-- Every history has a verdict, two agree in the verdict byte and, with a pattern, in the operations that they list, and with an
+-- order they are about one history. The byte is 0 exactly if there is a legal order; the order listed is one. Any other byte is that
+-- of a pattern. Histories that are alike have the same byte.
+pub use Rattle.violations.proofs.Verdicts.{verdict, verdict-one, settled-one, verdict-legal, verdict-exactly, pattern-of, alike-verdict}
+-- If no remove of a queue is pending, a verdict is one on the history as it stands; of a cell every verdict is.
+pub use Rattle.violations.proofs.Verdicts.{returned-lone, Unfated, complete-is-verdict, verdict-is-complete}
+pub use Rattle.violations.proofs.CompleteVerdicts.{complete-verdict-one, complete-zero, complete-pattern}
 
-module _ {h : History} (lawful : Lawful h) where
-  -- A legal order exists exactly if no pattern occurs.
-  pub linearizable-exactly : ((order : List ℕ) × Linearization h order) ↔ NoViolation h
-  linearizable-exactly = (λ found n listed. excluded lawful (found .1), λ clean. let (order, judged, found) = found-exists lawful clean in (order, judged .legal))
+-- A legal order that leaves a pending remove out, and one of a cell, exists exactly if no pattern occurs.
+pub complete-exactly : {h : History} → Lawful h → ((order : List ℕ) × CompleteLinearization h order) ↔ NoViolation Queue h
+complete-exactly lawful = (
+  λ (order, legal) n listed. excluded lawful legal,
+  λ clean. let (order, judged) = judged-exactly Queue lawful .1 clean in (order, judged-complete judged),
+)
 
-  -- Every history has a verdict: an order as the judge lists it, the one that the search finds, or a first pattern.
-  pub verdict : (byte : ℕ) × (listed : List ℕ) × Verdict h byte listed × (byte ≡ orderVerdict → Found h listed)
-  verdict = go (first-violation h)
-    where
-      go : SomeViolation h ⊎ NoViolation h → (byte : ℕ) × (listed : List ℕ) × Verdict h byte listed × (byte ≡ orderVerdict → Found h listed)
-      go (inl (n, listed, first)) = (n, listed, Verdict.violation first, λ e. absurd (omega (arith, occurs-numbered (first .occurs))))
-      go (inr clean) = let (order, judged, found) = found-exists lawful clean in (orderVerdict, order, Verdict.linearization judged, λ e. found)
+pub cell-exactly : {h : History} → Lawful h → ((order : List ℕ) × Linearization Cell h order) ↔ NoViolation Cell h
+cell-exactly lawful = (
+  λ (order, legal) n listed. cell-excluded lawful legal,
+  λ clean. let (order, judged) = judged-exactly Cell lawful .1 clean in (order, judged .legal),
+)
 
-  -- It has only one: two verdicts agree in the verdict byte and, with a pattern, in the operations that they list.
-  pub verdict-one : {m n : ℕ} {xs ys : List ℕ} → Verdict h m xs → Verdict h n ys → (m ≡ n) × ((m ≡ orderVerdict → ⊥) → xs ≡ ys)
-  verdict-one (Verdict.linearization x) (Verdict.linearization y) = (refl, λ violation. absurd (violation refl))
-  verdict-one (Verdict.linearization x) (Verdict.violation y) = absurd (excluded lawful (x .legal) (y .occurs))
-  verdict-one (Verdict.violation x) (Verdict.linearization y) = absurd (excluded lawful (y .legal) (x .occurs))
-  verdict-one (Verdict.violation x) (Verdict.violation y) = let (number, list) = first-violation-one x y in (number, λ violation. list)
+-- A part in which nothing has a fate and that keeps all that the first pattern lists has the same verdict byte.
+pub part-verdict : (object : Object) {h part : History} (p : Part h part) → Lawful h → Lawful part → Unfated object part → {m n : ℕ} {xs ys : List ℕ}
+    → FirstViolation object h m xs → Each (Kept p) xs
+    → Verdict object part n ys → m ≡ n
+part-verdict object p lawful lawful' unfated first kept v = parts.part-verdict p lawful lawful' first kept (verdict-is-complete object unfated v)
 
--- Any other verdict byte than 0 is that of a pattern.
-pub pattern-of : {h : History} {byte : ℕ} {listed : List ℕ} → Verdict h byte listed → (byte ≡ orderVerdict → ⊥) → FirstViolation h byte listed
-pattern-of (Verdict.linearization x) n = absurd (n refl)
-pattern-of (Verdict.violation x) n = x
+-- Of a queue's history in which no remove is pending: the verdict byte 0 is that of an order as the judge lists it,
+pub zero-is-linearization : {h : History} → RemovesReturned h → {byte : ℕ} {listed : List ℕ} → Verdict Queue h byte listed → byte ≡ orderVerdict
+    → JudgedLinearization Queue h listed
+zero-is-linearization returned v e = complete-zero (verdict-is-complete Queue returned v) e
 
--- The verdict byte 0 is that of an order.
-pub zero-is-linearization : {h : History} {byte : ℕ} {listed : List ℕ} → Verdict h byte listed → byte ≡ orderVerdict → JudgedLinearization h listed
-zero-is-linearization (Verdict.linearization x) e = x
-zero-is-linearization (Verdict.violation x) e = absurd (omega (arith, occurs-numbered (x .occurs)))
+-- there is a verdict whose order is the one that the search finds,
+pub found-verdict : {h : History} → Lawful h → RemovesReturned h
+    → (byte : ℕ) × (listed : List ℕ) × Verdict Queue h byte listed × (byte ≡ orderVerdict → Found h listed)
+found-verdict {h} lawful returned = go (first-violation Queue h)
+  where
+    go : SomeViolation Queue h ⊎ NoViolation Queue h → (byte : ℕ) × (listed : List ℕ) × Verdict Queue h byte listed × (byte ≡ orderVerdict → Found h listed)
+    go (inl (n, listed, first)) = (n, listed, complete-is-verdict Queue returned (CompleteVerdict.violation first), λ e. absurd (occurs-some (first .occurs) e))
+    go (inr clean) =
+        let (order, judged, found) = found-exists lawful clean in
+        (orderVerdict, order, complete-is-verdict Queue returned (CompleteVerdict.linearization judged), λ e. found)
 
--- Two verdicts on one history list the same operations, if an order is the one that the search finds.
-pub listed-one : {h : History} → Lawful h → {m n : ℕ} {xs ys : List ℕ} → Verdict h m xs → (m ≡ orderVerdict → Found h xs) → Verdict h n ys → (n ≡ orderVerdict → Found h ys) → xs ≡ ys
-listed-one {h} lawful {m} {n} {xs} {ys} v found w found' = go (verdict-one lawful v w) (ℕ-discrete m orderVerdict)
+-- and two verdicts list the same operations, if an order is the one that the search finds.
+pub listed-one : {h : History} → Lawful h → RemovesReturned h → {m n : ℕ} {xs ys : List ℕ} → Verdict Queue h m xs → (m ≡ orderVerdict → Found h xs)
+    → Verdict Queue h n ys → (n ≡ orderVerdict → Found h ys)
+    → xs ≡ ys
+listed-one {h} lawful returned {m} {n} {xs} {ys} v found w found' = go (verdict-one lawful v w) (ℕ-discrete m orderVerdict)
   where
     single : m ≡ orderVerdict → Single h
-    single e = tables-match (found e .reaches) (λ number listed l. excluded lawful (zero-is-linearization v e .legal)) .single
+    single e = tables-match (found e .reaches) (λ number listed l. excluded lawful (judged-complete (zero-is-linearization returned v e))) .single
 
     go : (m ≡ n) × ((m ≡ orderVerdict → ⊥) → xs ≡ ys) → Dec (m ≡ orderVerdict) → xs ≡ ys
     go (same, lists) (yes e) = found-one (single e) (found e) (found' (sym same ∙ e))

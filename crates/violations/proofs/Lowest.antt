@@ -1,10 +1,12 @@
 -- Lists compared left to right, and searches for the lowest list that has a property, in a form that computes.
-use Prim.Native.Nat.{ℕ, _<_}
+use Prim.Native.Nat.{ℕ, zero, suc, _<_}
 use native.Mathlib.Omega.{arith}
 use native.Mathlib.Decide.{decLt}
 use mathlib.Core.Path.{_≡_, refl, sym}
 use mathlib.Core.Logic.{_⊎_, inl, inr}
 use mathlib.Core.List.{List, [], _∷_}
+use lib.ListN.{length}
+use Rattle.history.specs.Each.{Each}
 use Rattle.reader.proofs.Search.{Lowest, None, lowest}
 use Rattle.violations.specs.Verdict.{Lower, ends, here, further}
 
@@ -99,3 +101,22 @@ lowest-cons {P} nonempty (inr none) = inr go
     go : NoList P
     go [] p = nonempty p
     go (x ∷ xs) p = none x xs p
+
+-- the lowest list is sought that has a property which only lists of so many numbers below a bound have
+unfoldable pub lowest-sized : (bound size : ℕ) (P : List ℕ → Type 0) → ((xs : List ℕ) → Dec (P xs))
+    → ((xs : List ℕ) → P xs → (length xs ≡ size) × Each (λ x. x < bound) xs) → Sought P
+unfolding only-lowest lowest-pair lowest-cons
+lowest-sized bound zero P d sized = go (d [])
+  where
+    empty : (xs : List ℕ) → length xs ≡ 0 → xs ≡ []
+    empty [] e = refl
+    empty (x ∷ xs) e = absurd (omega arith)
+
+    go : Dec (P []) → Sought P
+    go (yes p) = inl (only-lowest p (λ xs q. empty xs (sized xs q .0)))
+    go (no n) = inr (λ xs p. n (rw (empty xs (sized xs p .0)) at p))
+lowest-sized bound (suc size) P d sized =
+    lowest-cons (λ p. omega (arith, sized [] p .0))
+    (lowest-pair (λ x xs. P (x ∷ xs))
+    (λ x. lowest-sized bound size (λ xs. P (x ∷ xs)) (λ xs. d (x ∷ xs)) (λ xs p. let (e, all) = sized (x ∷ xs) p in (omega arith, all .1)))
+    bound (λ x xs p. sized (x ∷ xs) p .1 .0))

@@ -1,50 +1,89 @@
 -- What an occurrence of a pattern lists, and under which number.
-use Prim.Native.Nat.{ℕ, _<_}
+use Prim.Native.Nat.{ℕ, _≤_, _<_}
 use native.Mathlib.Omega.{arith}
+use mathlib.Core.Path.{_≡_, refl}
 use mathlib.Core.List.{List, [], _∷_}
-use lib.ListN.{getD}
-use Rattle.history.specs.History.{History, add, remove}
+use lib.ListN.{length, getD}
+use Rattle.history.specs.Object.{Object, Queue, Cell}
+use Rattle.history.specs.History.{History, add}
 use Rattle.history.specs.Each.{Each}
-use Rattle.violations.specs.Violations.{Is, Chain, all, link, Occurs, unknown, twice, early, stuck, overtaken, falseEmpty}
+use Rattle.history.specs.Sheet.{orderVerdict}
+use Rattle.violations.specs.Cells.{On}
+use Rattle.violations.specs.Violations.{Is, Chain, all, link, Occurs, unknown, twice, early, stuck, overtaken, falseEmpty, unwritten, premature, crossed, stale}
+use Rattle.violations.proofs.Lists.{each-map}
+use Rattle.violations.proofs.CellOperations.{on-kinded}
 
--- The operations of a list are of these kinds, one after the other.
-abbrev pub OfKinds : History → List ℕ → List ℕ → Type 0
-OfKinds h [] [] = Unit {0}
-OfKinds h [] (o ∷ os) = ⊥
-OfKinds h (k ∷ ks) [] = ⊥
-OfKinds h (k ∷ ks) (o ∷ os) = Is h k o × OfKinds h ks os
+-- What occurs lists operations of the history, and each has a kind.
+is-kinded : {h : History} {kind o : ℕ} → Is h kind o → add ≤ kind → (o < h .count) × (add ≤ h .kind o)
+is-kinded is l = (is .known, omega (arith, is .kinds))
 
--- the kinds of the operations that the patterns 1 to 5 list
-abbrev pub kindsOf : ℕ → List ℕ
-kindsOf n = getD ([] ∷ (remove ∷ []) ∷ (remove ∷ remove ∷ []) ∷ (remove ∷ add ∷ []) ∷ (add ∷ add ∷ remove ∷ []) ∷ (add ∷ add ∷ remove ∷ remove ∷ []) ∷ []) n []
+on-known : {h : History} {v o : ℕ} → On h v o → (o < h .count) × (add ≤ h .kind o)
+on-known on = (on .known, on-kinded on .0)
 
--- what occurs lists operations of these kinds, so many and no others
-pub occurs-of-kinds : {h : History} {n : ℕ} {listed : List ℕ} → n < 6 → Occurs h n listed → OfKinds h (kindsOf n) listed
-occurs-of-kinds l (unknown u) = (u .removes, tt)
-occurs-of-kinds l (twice t) = (t .first, (t .second, tt))
-occurs-of-kinds l (early t) = (t .removes .removes, (t .adds, tt))
-occurs-of-kinds l (stuck t) = (t .first, (t .second, (t .removes .removes, tt)))
-occurs-of-kinds l (overtaken t) = (t .first, (t .second, (t .removes .removes, (t .removes-late .removes, tt))))
-occurs-of-kinds l (falseEmpty t) = absurd (omega arith)
+chain-kinded : {h : History} {return g : ℕ} {chain : List ℕ} → Chain h return g chain → Each (λ o. (o < h .count) × (add ≤ h .kind o)) chain
+chain-kinded (all l) = tt
+chain-kinded (link l f rest) = (is-kinded (f .covers .adds) (omega arith), chain-kinded rest)
 
--- what occurs lists operations of the history
-chain-known : {h : History} {return g : ℕ} {chain : List ℕ} → Chain h return g chain → Each (λ o. o < h .count) chain
-chain-known (all l) = tt
-chain-known (link l f rest) = (f .covers .adds .known, chain-known rest)
+pub occurs-kinded : {object : Object} {h : History} {n : ℕ} {listed : List ℕ} → Occurs object h n listed → Each (λ o. (o < h .count) × (add ≤ h .kind o)) listed
+occurs-kinded (unknown u) = (is-kinded (u .removes) (omega arith), tt)
+occurs-kinded (twice t) = (is-kinded (t .first) (omega arith), (is-kinded (t .second) (omega arith), tt))
+occurs-kinded (early t) = (is-kinded (t .removes .removes) (omega arith), (is-kinded (t .adds) (omega arith), tt))
+occurs-kinded (stuck t) = (is-kinded (t .first) (omega arith), (is-kinded (t .second) (omega arith), (is-kinded (t .removes .removes) (omega arith), tt)))
+occurs-kinded (overtaken t) = (
+  is-kinded (t .first) (omega arith),
+  (is-kinded (t .second) (omega arith), (is-kinded (t .removes .removes) (omega arith), (is-kinded (t .removes-late .removes) (omega arith), tt))),
+)
+occurs-kinded (falseEmpty t) = (is-kinded (t .empties) (omega arith), chain-kinded (t .chained))
+occurs-kinded (unwritten t) = (is-kinded (t .reads) (omega arith), tt)
+occurs-kinded (premature t) = (is-kinded (t .reads) (omega arith), (is-kinded (t .writes) (omega arith), tt))
+occurs-kinded (crossed t) = (on-known (t .first), (on-known (t .second), (on-known (t .third), (on-known (t .fourth), tt))))
+occurs-kinded (stale t) = (on-known (t .on), (is-kinded (t .reads) (omega arith), tt))
 
-pub occurs-known : {h : History} {n : ℕ} {listed : List ℕ} → Occurs h n listed → Each (λ o. o < h .count) listed
-occurs-known (unknown u) = (u .removes .known, tt)
-occurs-known (twice t) = (t .first .known, (t .second .known, tt))
-occurs-known (early t) = (t .removes .removes .known, (t .adds .known, tt))
-occurs-known (stuck t) = (t .first .known, (t .second .known, (t .removes .removes .known, tt)))
-occurs-known (overtaken t) = (t .first .known, (t .second .known, (t .removes .removes .known, (t .removes-late .removes .known, tt))))
-occurs-known (falseEmpty t) = (t .empties .known, chain-known (t .chained))
+pub occurs-known : {object : Object} {h : History} {n : ℕ} {listed : List ℕ} → Occurs object h n listed → Each (λ o. o < h .count) listed
+occurs-known {listed = listed} x = each-map (λ o p. p .0) listed (occurs-kinded x)
 
--- what occurs is one of the six patterns
-pub occurs-numbered : {h : History} {n : ℕ} {listed : List ℕ} → Occurs h n listed → (0 < n) × (n < 7)
+-- The patterns of a queue are 1 to 6, those of a cell 7 to 10.
+abbrev pub lowestNumber : Object → ℕ
+lowestNumber Queue = 1
+lowestNumber Cell = 7
+
+abbrev pub highestNumber : Object → ℕ
+highestNumber Queue = 6
+highestNumber Cell = 10
+
+pub occurs-numbered : {object : Object} {h : History} {n : ℕ} {listed : List ℕ} → Occurs object h n listed
+    → (lowestNumber object ≤ n) × (n ≤ highestNumber object)
 occurs-numbered (unknown u) = omega arith
 occurs-numbered (twice t) = omega arith
 occurs-numbered (early t) = omega arith
 occurs-numbered (stuck t) = omega arith
 occurs-numbered (overtaken t) = omega arith
 occurs-numbered (falseEmpty t) = omega arith
+occurs-numbered (unwritten t) = omega arith
+occurs-numbered (premature t) = omega arith
+occurs-numbered (crossed t) = omega arith
+occurs-numbered (stale t) = omega arith
+
+-- so none is numbered as an order is
+pub occurs-some : {object : Object} {h : History} {n : ℕ} {listed : List ℕ} → Occurs object h n listed → n ≡ orderVerdict → ⊥
+occurs-some {object} {n = n} o e = go object (occurs-numbered o)
+  where
+    go : (object : Object) → (lowestNumber object ≤ n) × (n ≤ highestNumber object) → ⊥
+    go Queue l = omega arith
+    go Cell l = omega arith
+
+-- how many operations each of them lists, but for 6, whose chains are as long as they are
+abbrev pub sizeOf : ℕ → ℕ
+sizeOf n = getD (0 ∷ 1 ∷ 2 ∷ 2 ∷ 3 ∷ 4 ∷ 0 ∷ 1 ∷ 2 ∷ 4 ∷ 2 ∷ []) n 0
+
+pub occurs-sized : {object : Object} {h : History} {n : ℕ} {listed : List ℕ} → (n ≡ 6 → ⊥) → Occurs object h n listed → length listed ≡ sizeOf n
+occurs-sized other (unknown u) = refl
+occurs-sized other (twice t) = refl
+occurs-sized other (early t) = refl
+occurs-sized other (stuck t) = refl
+occurs-sized other (overtaken t) = refl
+occurs-sized other (falseEmpty t) = absurd (other refl)
+occurs-sized other (unwritten t) = refl
+occurs-sized other (premature t) = refl
+occurs-sized other (crossed t) = refl
+occurs-sized other (stale t) = refl

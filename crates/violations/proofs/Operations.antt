@@ -15,19 +15,19 @@ precedes-unless-after {h} lawful {o} {p} known known' l = let apart : h .ret o �
 
 -- what is no add has returned
 pub is-returned : {h : History} → Lawful h → {kind o : ℕ} → Is h kind o → add < kind → Returned h o
-is-returned lawful {o = o} is more = lawful .returned o (is .known) (λ e. omega (arith, is .kinds))
+is-returned lawful {o = o} is more = lawful .returned o (is .known) (omega (arith, is .kinds))
 
 -- a remove has one add
 pub same-adder : {h : History} → Lawful h → {a b r : ℕ} → Is h add a → Is h add b → RemoveOf h a r → RemoveOf h b r → a ≡ b
 same-adder lawful {a} {b} is is' out out' = lawful .once a b (is .known) (is' .known) (is .kinds) (is' .kinds) (sym (out .same) ∙ out' .same)
 
 -- An operation that is no empty remove has a value.
-pub has-value : {h : History} {o : ℕ} → o < h .count → h .kind o < emptyRemove → HasValue h o
-has-value known valued = record { known = known; valued = λ e. omega arith }
+pub has-value : {h : History} {o : ℕ} → o < h .count → add ≤ h .kind o → h .kind o < emptyRemove → HasValue h o
+has-value known kinded valued = record { known = known; valued = (kinded, valued) }
 
 -- So an add has one, and a remove.
-pub is-valued : {h : History} {kind o : ℕ} → Is h kind o → kind < emptyRemove → HasValue h o
-is-valued x valued = has-value (x .known) (omega (arith, x .kinds))
+pub is-valued : {h : History} {kind o : ℕ} → Is h kind o → add ≤ kind → kind < emptyRemove → HasValue h o
+is-valued x kinded valued = has-value (x .known) (omega (arith, x .kinds)) (omega (arith, x .kinds))
 
 -- whether an operation is of a kind, and whether it is a remove of an add's value
 unfoldable pub is? : (h : History) (kind o : ℕ) → Dec (Is h kind o)

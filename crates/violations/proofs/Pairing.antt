@@ -12,7 +12,8 @@ use borrow.Author.Tests.{eq-eqb, ne-eqb}
 use Rattle.record.specs.Choice.{if_then_else_}
 use Rattle.history.specs.History.{History, add, remove, emptyRemove}
 use Rattle.history.specs.Linearization.{Makes, puts, takes, meets, Fifo, placed}
-use Rattle.history.proofs.Queues.{fifo-first, makes-empty}
+use Rattle.history.proofs.Queues.{makes-empty}
+use Rattle.history.proofs.Running.{run-first}
 
 -- how many of the first k operations are of a kind
 pub rank : History → List ℕ → ℕ → ℕ → ℕ
@@ -193,7 +194,7 @@ module _ (h : History) (order : List ℕ) where
       where
         next : Standing k → Standing (suc k)
         next s =
-            let (queue', made, rest) = fifo-first (rw (drop-cons order k 0 (omega arith)) at (s .rest)) in
+            let (queue', made, rest) = run-first (rw (drop-cons order k 0 (omega arith)) at (s .rest)) in
             record { queue = queue'; paired = paired-step k (s .paired) made; rest = rest }
 
     pub source : (l : ℕ) → l < length order → kindAt l ≡ remove → Source l
@@ -219,4 +220,4 @@ module _ (h : History) (order : List ℕ) where
         s = standing k (omega arith)
 
         none : s .queue ≡ []
-        none = makes-empty (fifo-first (rw (drop-cons order k 0 b) at (s .rest)) .1) e
+        none = makes-empty (run-first (rw (drop-cons order k 0 b) at (s .rest)) .1) e

@@ -7,30 +7,19 @@ use mathlib.Core.Path.{_≡_, sym, ap, _∙_}
 use mathlib.Core.Logic.{_⊎_, inl, inr, _↔_}
 use mathlib.Core.List.{List, [], _∷_, map, append-nil, map-append}
 use lib.Seq.{append-snoc}
-use Rattle.history.specs.History.{History, add, emptyRemove, Returned, Precedes, Lawful}
-use Rattle.history.specs.Linearization.{Makes, puts, takes, meets, done, then, Listed}
-use Rattle.history.proofs.Deciding.{listed?}
-use Rattle.violations.specs.Violations.{Is, RemoveOf, Removed}
+use Rattle.history.specs.Object.{Queue}
+use Rattle.history.specs.History.{History, add, emptyRemove, Lawful}
+use Rattle.history.specs.RunFrom.{done, then}
+use Rattle.history.specs.Linearization.{Makes, puts, takes, meets, Listed}
+use Rattle.history.proofs.Queues.{fifo-runs}
+use Rattle.violations.specs.Violations.{Is, RemoveOf}
 use Rattle.violations.specs.Verdict.{JudgedLinearization}
 use Rattle.violations.specs.Search.{Single, Queued, Searched}
-use Rattle.violations.specs.Found.{Due, Left, Safe, Serves, enqueues, dequeues, meets-empty, Placeable}
+use Rattle.violations.specs.Greedy.{Due, Left, Placeable}
+use Rattle.violations.specs.Found.{Safe, Serves, enqueues, dequeues, meets-empty}
 use Rattle.violations.proofs.Lists.{snoc, listed-none, listed-old, listed-new, listed-either, each-snoc, pairs-snoc, listed-behind, listed-first, listed-here}
 use Rattle.violations.proofs.Operations.{is-returned, same-adder}
-
--- what is left when one more operation is placed
-module _ {h : History} (order : List ℕ) (o : ℕ) where
-  left-before : {p : ℕ} → Left h (snoc order o) p → Left h order p
-  left-before l = record { due = l .due; unplaced = λ m. l .unplaced (listed-old order o m) }
-
-  left-other : {p : ℕ} → Left h (snoc order o) p → o ≡ p → ⊥
-  left-other l e = l .unplaced (rw (← e) (listed-new order o))
-
-  left-still : {p : ℕ} → Left h order p → (o ≡ p → ⊥) → Left h (snoc order o) p
-  left-still {p} l n = record { due = l .due; unplaced = λ m. go (listed-either order o m) }
-    where
-      go : Listed order p ⊎ (o ≡ p) → ⊥
-      go (inl m) = l .unplaced m
-      go (inr e) = n e
+use Rattle.violations.proofs.Greedy.{left-before, left-other, left-still, begun-none, begun-more, begun-judged}
 
 -- an operation of one kind is none of another
 another : {h : History} {o p kind : ℕ} → Is h kind p → (h .kind o ≡ kind → ⊥) → o ≡ p → ⊥
@@ -129,7 +118,8 @@ queue-empty {order = order} o s k = empty-queue (λ a r is out. (
 ))
 
 -- an operation that is placed makes of the values in the queue what it makes of the queue
-serves-makes : {h : History} {reach gap : ℕ → ℕ} {order queue queue' : List ℕ} {o : ℕ} → Serves h reach gap order o queue queue' → Makes h o (map (h .value) queue) (map (h .value) queue')
+pub serves-makes : {h : History} {reach gap : ℕ → ℕ} {order queue queue' : List ℕ} {o : ℕ} → Serves h reach gap order o queue queue'
+    → Makes h o (map (h .value) queue) (map (h .value) queue')
 serves-makes {h} {o = o} (enqueues {queue = queue} e safe) = rw (map-append (h .value) queue (o ∷ [])) (puts e)
 serves-makes (dequeues out) = takes (out .removes .kinds) (out .same)
 serves-makes (meets-empty e) = meets e
@@ -138,25 +128,30 @@ module _ {h : History} (lawful : Lawful h) where
   -- the search starts with nothing placed
   pub search-starts : (reach gap : ℕ → ℕ) → Searched h reach gap [] []
   search-starts reach gap = record {
-    due = λ i l. absurd (omega arith);
-    once = λ i j l m. absurd (omega arith);
-    keeps = λ i j l m. absurd (omega arith);
-    ahead = λ i p l. absurd (omega arith);
+    begun = begun-none;
     runs = λ more run. run;
-    queued = empty-queue (λ a r is out. (λ l. record { due = record { known = is .known; listed = inr (r, out) }; unplaced = listed-none }, λ l. record { due = remove-due out; unplaced = listed-none }));
+    queued = empty-queue (λ a r is out. (
+      λ l. record {
+        due = record { known = is .known; kinded = omega (arith, is .kinds); listed = inr (r, out) };
+        unplaced = listed-none;
+      },
+      λ l. record { due = remove-due out; unplaced = listed-none },
+    ));
   }
     where
       remove-due : {a r : ℕ} → RemoveOf h a r → Due h r
-      remove-due out = record { known = out .removes .known; listed = inl (is-returned lawful (out .removes) (omega arith)) }
+      remove-due out = record {
+        known = out .removes .known;
+        kinded = omega (arith, out .removes .kinds);
+        listed = inl (is-returned lawful (out .removes) (omega arith));
+      }
 
   module _ {reach gap : ℕ → ℕ} {order queue : List ℕ} (s : Searched h reach gap order queue) where
     -- any placeable operation may be placed
-    pub search-places : Single h → {queue' : List ℕ} {o : ℕ} → Placeable h reach gap order queue o queue' → Searched h reach gap (snoc order o) queue'
+    pub search-places : Single h → {queue' : List ℕ} {o : ℕ} → Placeable h (Serves h reach gap) order queue o queue'
+        → Searched h reach gap (snoc order o) queue'
     search-places single {queue'} {o} p = record {
-      due = each-snoc order o (λ x. Due h x) (s .due) (p .enabled .left .due);
-      once = pairs-snoc order o (λ x y. x ≡ y → ⊥) (s .once) (λ i l e. p .enabled .left .unplaced (record { at = i; below = l; here = e }));
-      keeps = pairs-snoc order o (λ x y. Precedes h y x → ⊥) (s .keeps) (λ i l. s .ahead i o l (p .enabled .left));
-      ahead = λ i q l m. each-snoc order o (λ x. Precedes h q x → ⊥) (λ j n. s .ahead j q n (left-before order o m)) (λ precedes. omega (arith, p .enabled .first q (left-before order o m))) i l;
+      begun = begun-more (s .begun) (p .enabled);
       runs = λ more run. rw (append-snoc order o more) (s .runs (o ∷ more) (then (serves-makes (p .serves)) run));
       queued = go (s .queued) (p .serves);
     }
@@ -167,25 +162,6 @@ module _ {h : History} (lawful : Lawful h) where
         go q (meets-empty k) = queue-empty o q k
 
 -- where nothing is left, a legal order is listed, with a pending add exactly if its value was removed
-pub search-ends : {h : History} {reach gap : ℕ → ℕ} {order queue : List ℕ} → Searched h reach gap order queue → ((o : ℕ) → Left h order o → ⊥) → JudgedLinearization h order
-search-ends {h} {order = order} s none = record {
-  legal = record {
-    known = λ i l. s .due i l .known;
-    every = λ o l returned. listed (record { known = l; listed = inl returned });
-    once = s .once;
-    keeps = s .keeps;
-    runs = rw (append-nil order) at (s .runs [] done);
-  };
-  pending = λ a l unreturned. (λ m. removed unreturned (rw (m .here) at (s .due (m .at) (m .below)) .listed), λ r. listed (record { known = l; listed = inr r }));
-}
-  where
-    listed : {o : ℕ} → Due h o → Listed order o
-    listed {o} due = go (listed? order o)
-      where
-        go : Dec (Listed order o) → Listed order o
-        go (yes l) = l
-        go (no n) = absurd (none o (record { due = due; unplaced = n }))
-
-    removed : {a : ℕ} → (Returned h a → ⊥) → Returned h a ⊎ Removed h a → Removed h a
-    removed unreturned (inl r) = absurd (unreturned r)
-    removed unreturned (inr r) = r
+pub search-ends : {h : History} → Lawful h → {reach gap : ℕ → ℕ} {order queue : List ℕ} → Searched h reach gap order queue
+    → ((o : ℕ) → Left h order o → ⊥) → JudgedLinearization Queue h order
+search-ends lawful {order = order} s none = begun-judged Queue lawful (s .begun) (fifo-runs (rw (append-nil order) at (s .runs [] done))) none

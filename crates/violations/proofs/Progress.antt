@@ -3,44 +3,35 @@ use Prim.Native.Nat.{ℕ, suc, _≤_, _<_}
 use native.Mathlib.Omega.{arith}
 use native.Mathlib.Decide.{decLt, ℕ-discrete}
 use mathlib.Core.Path.{_≡_, sym, ap, _∙_}
-use mathlib.Core.Logic.{_⊎_, inl, inr, Dec·and, Dec·not}
+use mathlib.Core.Logic.{_⊎_, inl, inr, Dec·and}
 use mathlib.Core.List.{List, [], _∷_}
 use Rattle.reader.proofs.Search.{Lowest, None, lowest}
 use Rattle.history.specs.History.{History, add, remove, emptyRemove, Lawful}
 use Rattle.history.specs.Linearization.{Listed}
-use Rattle.history.proofs.Deciding.{equivalent?, listed?, either?}
+use Rattle.history.proofs.Deciding.{equivalent?}
 use Rattle.violations.specs.Violations.{Is, RemoveOf, Reaches, removed, never}
 use Rattle.violations.specs.Search.{Matched, Sound, Queued, Searched}
-use Rattle.violations.specs.Found.{Due, Left, Enabled, enqueues, dequeues, meets-empty, Placeable}
+use Rattle.violations.specs.Greedy.{Left}
+use Rattle.violations.specs.Found.{Serves, enqueues, dequeues, meets-empty}
 use Rattle.violations.proofs.Lists.{listed-first, listed-here}
 use Rattle.violations.proofs.Choosing.{Best, best-of, lesser}
+use Rattle.violations.proofs.Operations.{precedes-unless-after}
+use Rattle.violations.proofs.Greedy.{left?, Earliest, earliest, called-enabled, Next}
 use Rattle.violations.proofs.Placing.{left-alone}
-use Rattle.violations.proofs.Operations.{precedes-unless-after, removed?}
 
 -- the value of an add reaches to the call of its remove
-reach-is : {h : History} {reach : ℕ → ℕ} → Matched h reach → {a r : ℕ} → Is h add a → RemoveOf h a r → reach a ≡ h .call r
+pub reach-is : {h : History} {reach : ℕ → ℕ} → Matched h reach → {a r : ℕ} → Is h add a → RemoveOf h a r → reach a ≡ h .call r
 reach-is {h} {reach} matched {a} {r} is out = go (matched .reaches a is)
   where
     go : Reaches h a (reach a) → reach a ≡ h .call r
     go (removed s off e) = sym e ∙ ap (h .call) (matched .single s r (off .removes) (out .removes) (off .same ∙ sym (out .same)))
     go (never n e) = absurd (n (r, out))
 
--- whether an operation is to be listed, and whether it is left
-due? : (h : History) (o : ℕ) → Dec (Due h o)
-due? h o = equivalent? {P = _ × _} (λ p. record { known = p .0; listed = p .1 }) (λ d. (d .known, d .listed)) (Dec·and (decLt _ _) (either? (decLt _ _) (removed? h o)))
-
-pub left? : (h : History) (order : List ℕ) (o : ℕ) → Dec (Left h order o)
-left? h order o = equivalent? {P = _ × (_ → ⊥)} (λ p. record { due = p .0; unplaced = p .1 }) (λ l. (l .due, l .unplaced)) (Dec·and (due? h o) (Dec·not (listed? order o)))
-
--- something is placeable
-abbrev pub Next : History → (ℕ → ℕ) → (ℕ → ℕ) → List ℕ → List ℕ → Type 0
-Next h reach gap order queue = (o : ℕ) × (queue' : List ℕ) × Placeable h reach gap order queue o queue'
-
 module _ {h : History} {reach gap : ℕ → ℕ} (lawful : Lawful h) (sound : Sound h reach gap) {order : List ℕ} where
   -- Of what is left, p is the first to return. What is called before that is enabled.
-  module _ {p : ℕ} (left : Left h order p) (first : (q : ℕ) → Left h order q → h .ret p ≤ h .ret q) where
-    enabled : {o : ℕ} → Left h order o → h .call o < h .ret p → Enabled h order o
-    enabled l before = record { left = l; first = λ q m. omega (arith, first q m) }
+  module _ {p : ℕ} (soonest : Earliest h order p) where
+    abbrev left : Left h order p
+    left = soonest .left
 
     -- the enabled operations of a kind
     record Candidate (kind o : ℕ) : Type 0 where
@@ -56,12 +47,12 @@ module _ {h : History} {reach gap : ℕ → ℕ} (lawful : Lawful h) (sound : So
     -- Among the enabled adds the one that reaches least far is safe, if one of them is safe but for the enabled adds.
     place-add : {queue : List ℕ} (w : ℕ) → Candidate add w
         → ((b r : ℕ) → Is h add b → Left h order b → h .ret p ≤ h .call b → RemoveOf h b r → reach w < h .ret r)
-        → ((e : ℕ) → Is h emptyRemove e → Left h order e → reach w ≤ gap e) → Next h reach gap order queue
+        → ((e : ℕ) → Is h emptyRemove e → Left h order e → reach w ≤ gap e) → Next h (Serves h reach gap) order queue
     place-add w candidate behind empty = (
       v .at,
       _,
       record {
-        enabled = enabled (v .holds .is-left) (v .holds .before);
+        enabled = called-enabled soonest (v .holds .is-left) (v .holds .before);
         serves = enqueues (v .holds .kinds) (record { removes = λ b r is l out. removes b r is l out (decLt (h .call b) (h .ret p)); empties = λ e is l. omega (arith, empty e is l, lower) });
       },
     )
@@ -77,7 +68,8 @@ module _ {h : History} {reach gap : ℕ → ℕ} (lawful : Lawful h) (sound : So
         removes b r is l out (no after) = omega (arith, behind b r is l (omega arith) out, lower)
 
     -- If p is an add, it is safe but for the enabled adds, unless an empty remove that is left has its gap before p returns.
-    place-first-add : {queue : List ℕ} → h .kind p ≡ add → ((e : ℕ) → Is h emptyRemove e → Left h order e → h .ret p ≤ gap e) → Next h reach gap order queue
+    place-first-add : {queue : List ℕ} → h .kind p ≡ add → ((e : ℕ) → Is h emptyRemove e → Left h order e → h .ret p ≤ gap e)
+        → Next h (Serves h reach gap) order queue
     place-first-add k empty = place-add p (record { kinds = k; before = lawful .spans p (left .due .known); is-left = left }) behind gaps
       where
         adding : Is h add p
@@ -104,18 +96,20 @@ module _ {h : History} {reach gap : ℕ → ℕ} (lawful : Lawful h) (sound : So
         record { adder = a; is = is; out = out; where-is = s .served a p is out .0 left }
 
     -- A front of the queue whose remove is called before p returns is removed.
-    next-removed : {a : ℕ} {rest : List ℕ} → Queued h reach gap order (a ∷ rest) → reach a < h .ret p → Next h reach gap order (a ∷ rest)
+    next-removed : {a : ℕ} {rest : List ℕ} → Queued h reach gap order (a ∷ rest) → reach a < h .ret p → Next h (Serves h reach gap) order (a ∷ rest)
     next-removed {a} {rest} s before = go (sound .matched .reaches a (front .0))
       where
         front : Is h add a × Listed order a
         front = s .added a (listed-here a rest)
 
-        go : Reaches h a (reach a) → Next h reach gap order (a ∷ rest)
-        go (removed r out e) = (r, rest, record { enabled = enabled (s .served a r (front .0) out .1 (inr (listed-here a rest))) (omega arith); serves = dequeues out })
+        go : Reaches h a (reach a) → Next h (Serves h reach gap) order (a ∷ rest)
+        go (removed r out e) =
+            let r-left = s .served a r (front .0) out .1 (inr (listed-here a rest)) in
+            (r, rest, record { enabled = called-enabled soonest r-left (omega arith); serves = dequeues out })
         go (never n e) = absurd (omega (arith, lawful .ends p (left .due .known)))
 
     -- Otherwise p is an add: the front blocks no remove and no empty remove.
-    next-added : {a : ℕ} {rest : List ℕ} → Queued h reach gap order (a ∷ rest) → h .ret p ≤ reach a → Next h reach gap order (a ∷ rest)
+    next-added : {a : ℕ} {rest : List ℕ} → Queued h reach gap order (a ∷ rest) → h .ret p ≤ reach a → Next h (Serves h reach gap) order (a ∷ rest)
     next-added {a} {rest} s after = go (ℕ-discrete (h .kind p) add) (ℕ-discrete (h .kind p) remove)
       where
         unblocked : Adder (a ∷ rest) → ⊥
@@ -129,15 +123,15 @@ module _ {h : History} {reach gap : ℕ → ℕ} (lawful : Lawful h) (sound : So
                 here (inl e) = omega (arith, ap reach e, reach-is (sound .matched) (x .is) (x .out), lawful .spans p (left .due .known))
                 here (inr m) = omega (arith, s .before-queued 0 (suc (m .at)) p (omega arith) (omega (arith, m .below)) (rw (m .here) (x .out)))
 
-        go : Dec (h .kind p ≡ add) → Dec (h .kind p ≡ remove) → Next h reach gap order (a ∷ rest)
+        go : Dec (h .kind p ≡ add) → Dec (h .kind p ≡ remove) → Next h (Serves h reach gap) order (a ∷ rest)
         go (yes k) d = place-first-add k (λ e is l. omega (arith, s .before-empties 0 e (omega arith) is l))
         go (no n) (yes k) = absurd (unblocked (adder s k))
         go (no n) (no m) =
-            let is : Is h emptyRemove p = record { known = left .due .known; kinds = omega (arith, lawful .kinds p (left .due .known)) } in
+            let is : Is h emptyRemove p = record { known = left .due .known; kinds = omega (arith, lawful .kinds p (left .due .known), left .due .kinded) } in
             absurd (omega (arith, s .before-empties 0 p (omega arith) is left, sound .gaps p is .until))
 
     -- With an empty queue an enabled empty remove is placed; if there is none, p is an add or a remove, and an add is placed.
-    next-empty : Queued h reach gap order [] → Next h reach gap order []
+    next-empty : Queued h reach gap order [] → Next h (Serves h reach gap) order []
     next-empty s = go (lowest (Candidate emptyRemove) (candidate? emptyRemove) (h .count))
       where
         later : None (Candidate emptyRemove) (h .count) → (e : ℕ) → Is h emptyRemove e → Left h order e → h .ret p ≤ gap e
@@ -146,33 +140,35 @@ module _ {h : History} {reach gap : ℕ → ℕ} (lawful : Lawful h) (sound : So
             omega (arith, sound .gaps e is .from)
 
         -- the add of a remove that returns first
-        timely : None (Candidate emptyRemove) (h .count) → Adder [] → Next h reach gap order []
+        timely : None (Candidate emptyRemove) (h .count) → Adder [] → Next h (Serves h reach gap) order []
         timely none x =
             let reaches : reach (x .adder) ≡ h .call p = reach-is (sound .matched) (x .is) (x .out) in
             let spans : h .call p < h .ret p = lawful .spans p (left .due .known) in
             place-add (x .adder) (record { kinds = x .is .kinds; before = sound .timely (x .adder) p (x .is) (x .out); is-left = left-alone (x .where-is) })
-            (λ b r is l after out. omega (arith, first r (s .served b r is out .1 (inl l)), reaches, spans))
+            (λ b r is l after out. omega (arith, soonest .first r (s .served b r is out .1 (inl l)), reaches, spans))
             (λ e is l. omega (arith, later none e is l, reaches, spans))
 
-        by-kind : None (Candidate emptyRemove) (h .count) → Dec (h .kind p ≡ add) → Dec (h .kind p ≡ remove) → Next h reach gap order []
+        by-kind : None (Candidate emptyRemove) (h .count) → Dec (h .kind p ≡ add) → Dec (h .kind p ≡ remove) → Next h (Serves h reach gap) order []
         by-kind none (yes k) d = place-first-add k (later none)
         by-kind none (no n) (yes k) = timely none (adder s k)
-        by-kind none (no n) (no m) = absurd (none p (left .due .known) (record { kinds = omega (arith, lawful .kinds p (left .due .known)); before = lawful .spans p (left .due .known); is-left = left }))
+        by-kind none (no n) (no m) = absurd (none p (left .due .known) (record {
+          kinds = omega (arith, lawful .kinds p (left .due .known), left .due .kinded);
+          before = lawful .spans p (left .due .known);
+          is-left = left;
+        }))
 
-        go : Lowest (Candidate emptyRemove) (h .count) ⊎ None (Candidate emptyRemove) (h .count) → Next h reach gap order []
-        go (inl e) = (e .at, [], record { enabled = enabled (e .holds .is-left) (e .holds .before); serves = meets-empty (e .holds .kinds) })
+        go : Lowest (Candidate emptyRemove) (h .count) ⊎ None (Candidate emptyRemove) (h .count) → Next h (Serves h reach gap) order []
+        go (inl e) = (e .at, [], record { enabled = called-enabled soonest (e .holds .is-left) (e .holds .before); serves = meets-empty (e .holds .kinds) })
         go (inr none) = by-kind none (ℕ-discrete (h .kind p) add) (ℕ-discrete (h .kind p) remove)
 
-    next : (queue : List ℕ) → Queued h reach gap order queue → Next h reach gap order queue
+    next : (queue : List ℕ) → Queued h reach gap order queue → Next h (Serves h reach gap) order queue
     next [] s = next-empty s
     next (a ∷ rest) s = go (decLt (reach a) (h .ret p))
       where
-        go : Dec (reach a < h .ret p) → Next h reach gap order (a ∷ rest)
+        go : Dec (reach a < h .ret p) → Next h (Serves h reach gap) order (a ∷ rest)
         go (yes b) = next-removed s b
         go (no b) = next-added s (omega arith)
 
   -- while something is left, something is placeable
-  pub search-goes-on : {queue : List ℕ} → Searched h reach gap order queue → {o : ℕ} → Left h order o → Next h reach gap order queue
-  search-goes-on {queue} s l =
-      let p = best-of (lesser (h .ret)) (left? h order) (l .due .known) l in
-      next (p .holds) (λ q m. p .best q (m .due .known) m) queue (s .queued)
+  pub search-goes-on : {queue : List ℕ} → Searched h reach gap order queue → {o : ℕ} → Left h order o → Next h (Serves h reach gap) order queue
+  search-goes-on {queue} s l = let (p, e) = earliest l in next e queue (s .queued)

@@ -1,23 +1,119 @@
--- The runs of the two tables have the verdicts that are given for them.
-use mathlib.Core.Path.{refl}
+-- The runs of the tables have the verdicts that are given for them.
+use Prim.Native.Nat.{ℕ, _+_, _≤_, _<_}
+use native.Mathlib.Decide.{decLt, decLe, ℕ-discrete}
+use mathlib.Core.Path.{_≡_, refl}
 use mathlib.Core.Bool.{decide}
+use mathlib.Core.Logic.{_⊎_, Dec·and, Dec·not}
 use Rattle.history.specs.Each.{Each}
-use Rattle.history.specs.History.{History}
-use Rattle.history.specs.Runs.{Holds}
-use Rattle.history.proofs.Rows.{each?, history, reading, rows-hold}
-use Rattle.violations.specs.Runs.{Expected, linearization, violation, Judged, runs, picks}
-use Rattle.violations.proofs.Deciding.{first-violation?, judged-linearization?}
+use Rattle.history.specs.Object.{Object, Queue, Cell}
+use Rattle.history.specs.History.{History, add, noKind, Returned, Lawful, Lone}
+use Rattle.history.specs.Runs.{Holds, Fits}
+use Rattle.history.proofs.Deciding.{all-below?, implies?, equivalent?}
+use Rattle.history.proofs.Rows.{each?, history, reading, rows-hold, rows-fit}
+use Rattle.violations.specs.Violations.{Is}
+use Rattle.violations.specs.Verdict.{FirstViolation, JudgedLinearization, Verdict}
+use Rattle.violations.specs.Fates.{taking, Free, left-out}
+use Rattle.violations.specs.Runs.{Expected, linearization, violation, Judged, runs, picks, cellRuns, Settling, leaves-out, takes, fails, Settles, openRuns}
+use Rattle.violations.proofs.Lists.{each-map}
+use Rattle.violations.proofs.Operations.{is?}
+use Rattle.violations.proofs.FirstViolations.{SomeViolation, violated?, first-violation?, judged-linearization?}
+use Rattle.violations.proofs.Excluding.{excluded}
+use Rattle.violations.proofs.Fates.{taking-back, comes-back-lawful}
+use Rattle.violations.proofs.Candidate.{it-settles, it-fails}
+use Rattle.violations.proofs.Verdicts.{free?}
 
 -- whether what is expected is right
-judged? : (h : History) (expected : Expected) → Dec (Judged h expected)
+judged? : (object : Object) (h : History) (expected : Expected) → Dec (Judged object h expected)
 unfolding judged-linearization? first-violation?
-judged? h (linearization listed) = judged-linearization? h listed
-judged? h (violation number listed) = first-violation? h number listed
+judged? object h (linearization listed) = judged-linearization? object h listed
+judged? object h (violation number listed) = first-violation? object h number listed
 
-pub runs-hold : Each (Holds Judged) runs
+pub runs-hold : Each (Holds (Judged Queue)) runs
 unfolding decide each? judged? history reading
-runs-hold = rows-hold judged? runs refl refl
+runs-hold = rows-hold (judged? Queue) runs refl refl
 
-pub picks-hold : Each (Holds Judged) picks
+pub picks-hold : Each (Holds (Judged Queue)) picks
 unfolding decide each? judged? history reading
-picks-hold = rows-hold judged? picks refl refl
+picks-hold = rows-hold (judged? Queue) picks refl refl
+
+pub cell-runs-fit : Each (Fits (Judged Cell)) cellRuns
+unfolding decide each? judged? history
+cell-runs-fit = rows-fit (judged? Cell) cellRuns refl
+
+-- whether a history is lawful, with at most one remove pending
+lawful? : (h : History) → Dec (Lawful h)
+unfolding equivalent? Dec·and Dec·not all-below? implies? decLt decLe ℕ-discrete
+lawful? h =
+    equivalent? {P = _ × (_ × (_ × (_ × (_ × (_ × (_ × _))))))}
+    (λ p. record {
+      kinds = p .0;
+      spans = p .1 .0;
+      ends = p .1 .1 .0;
+      returned = p .1 .1 .1 .0;
+      unreturned = p .1 .1 .1 .1 .0;
+      apart = λ o q l m. p .1 .1 .1 .1 .1 .0 o l q m;
+      numbered = λ o q l m. p .1 .1 .1 .1 .1 .1 .0 q m o l;
+      once = λ a b l m. p .1 .1 .1 .1 .1 .1 .1 a l b m;
+    })
+    (λ w. (
+      w .kinds,
+      (w .spans, (w .ends, (w .returned, (w .unreturned, (λ o l q m. w .apart o q l m, (λ q m o l. w .numbered o q l m, λ a l b m. w .once a b l m)))))),
+    ))
+    (Dec·and (every (λ o. decLe _ _)) (Dec·and (every (λ o. decLt _ _)) (Dec·and (every (λ o. decLe _ _)) (Dec·and (every (λ o. implies? (decLt _ _) (decLt _ _)))
+    (Dec·and (every (λ o. implies? (ℕ-discrete _ _) (Dec·not (decLt _ _)))) (Dec·and (every (λ o. every (λ q. Dec·not (ℕ-discrete _ _))))
+    (Dec·and (every (λ q. all-below? (λ o. decLt _ _) q))
+    (every (λ a. every (λ b. implies? (ℕ-discrete _ _) (implies? (ℕ-discrete _ _) (implies? (ℕ-discrete _ _) (ℕ-discrete _ _)))))))))))))
+  where
+    every : {P : ℕ → Type 0} → ((o : ℕ) → Dec (P o)) → Dec ((o : ℕ) → o < h .count → P o)
+    every d = all-below? d (h .count)
+
+lone? : (h : History) → Dec (Lone h)
+unfolding equivalent? Dec·and all-below? implies? decLt ℕ-discrete
+lone? h =
+    equivalent? {P = _ × _} (λ p. record { one = λ o q l m. p .0 o l q m; spare = λ o q l m. p .1 o l q m })
+    (λ w. (λ o l q m. w .one o q l m, λ o l q m. w .spare o q l m))
+    (Dec·and (all-below? (λ o. all-below? (λ q. implies? (ℕ-discrete _ _) (implies? (ℕ-discrete _ _) (ℕ-discrete _ _))) (h .count)) (h .count))
+    (all-below? (λ o. all-below? (λ q. implies? (ℕ-discrete _ _) (decLt _ _)) (h .count)) (h .count)))
+
+-- What is computed of a row with a remove that does not return: that there is an order with it left out, or else that it is
+-- remove o and that of the adds which are not removed a returns first, and what comes of the one fate that can succeed.
+record Tried (h : History) (o a : ℕ) : Type 0 where
+  lawful : Lawful h
+  lone : Lone h
+  pending : Is h noKind o
+  free : Free h a
+  soonest : (b : ℕ) → b < h .count → Free h b → Returned h b → h .ret a ≤ h .ret b
+
+abbrev Computed : History → Settling → Type 0
+Computed h (leaves-out listed) = JudgedLinearization Queue h listed
+Computed h (takes o a listed) = Tried h o a × (SomeViolation Queue h × JudgedLinearization Queue (taking h o a) listed)
+Computed h (fails o a number listed) = Tried h o a × (FirstViolation Queue h number listed × SomeViolation Queue (taking h o a))
+
+tried? : (h : History) (o a : ℕ) → Dec (Tried h o a)
+unfolding equivalent? Dec·and all-below? implies? decLt decLe lawful? lone? is? free?
+tried? h o a =
+    equivalent? {P = _ × (_ × (_ × (_ × _)))} (λ p. record { lawful = p .0; lone = p .1 .0; pending = p .1 .1 .0; free = p .1 .1 .1 .0; soonest = p .1 .1 .1 .1 })
+    (λ t. (t .lawful, (t .lone, (t .pending, (t .free, t .soonest)))))
+    (Dec·and (lawful? h) (Dec·and (lone? h) (Dec·and (is? h noKind o) (Dec·and (free? h a)
+    (all-below? (λ b. implies? (free? h b) (implies? (decLt _ _) (decLe _ _))) (h .count))))))
+
+computed? : (h : History) (says : Settling) → Dec (Computed h says)
+unfolding Dec·and tried? violated? judged-linearization? first-violation?
+computed? h (leaves-out listed) = judged-linearization? Queue h listed
+computed? h (takes o a listed) = Dec·and (tried? h o a) (Dec·and (violated? Queue h) (judged-linearization? Queue (taking h o a) listed))
+computed? h (fails o a number listed) = Dec·and (tried? h o a) (Dec·and (first-violation? Queue h number listed) (violated? Queue (taking h o a)))
+
+-- that is enough
+computed-settles : (h : History) (says : Settling) → Computed h says → Settles h says
+computed-settles h (leaves-out listed) judged = Verdict.linearization left-out judged
+computed-settles h (takes o a listed) (t, ((n, pattern, first), judged)) =
+    (it-settles (t .lawful) (t .lone) (t .pending) first (t .free) (λ b free. t .soonest b (free .adds .known) free), judged)
+computed-settles h (fails o a number listed) (t, (first, (n, pattern, there))) =
+    it-fails (t .lawful) (t .lone) (t .pending) first (t .free) (λ b free. t .soonest b (free .adds .known) free)
+    (λ (order, legal). excluded (comes-back-lawful (t .lawful) (taking-back (t .lone) (t .pending) a)) legal (there .occurs))
+
+pub open-runs-fit : Each (Fits Settles) openRuns
+unfolding decide each? computed? history
+open-runs-fit =
+    each-map {P = Fits Computed} {Q = Fits Settles} (λ row fits. record { right = computed-settles _ (row .says) (fits .right) }) openRuns
+    (rows-fit computed? openRuns refl)

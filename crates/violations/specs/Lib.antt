@@ -1,6 +1,11 @@
+pub mod Operation
+pub mod Cells
 pub mod Violations
+pub mod Fates
 pub mod Verdict
-pub mod Found
 pub mod Runs
 pub mod Parts
+pub mod Greedy
+pub mod Found
 pub mod Search
+pub mod CellSearch

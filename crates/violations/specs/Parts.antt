@@ -1,16 +1,16 @@
 -- Parts of a history, and histories that are alike. Document 01's excerpt and narrowing keep "all records of all operations" on
 -- some values, an excerpt one empty remove too: the history of such a log is a part. Where two neighbouring calls or returns
 -- "trade places" (demand 3), the histories of the two logs are alike.
-use Prim.Native.Nat.{ℕ, _<_}
+use Prim.Native.Nat.{ℕ, _≤_, _<_}
 use mathlib.Core.Path.{_≡_}
 use mathlib.Core.Logic.{_↔_}
 use mathlib.Core.List.{List, [], _∷_}
-use Rattle.history.specs.History.{History, emptyRemove, Returned, Precedes}
+use Rattle.history.specs.History.{History, add, emptyRemove, Returned, Precedes}
 
 -- o is an operation with a value
 pub record HasValue (h : History) (o : ℕ) : Type 0 where
   pub known : o < h .count
-  pub valued : h .kind o ≡ emptyRemove → ⊥
+  pub valued : (add ≤ h .kind o) × (h .kind o < emptyRemove)
 
 -- operation o of a history is operation q of its part
 pub record KeptAs (part : History) (to : ℕ → ℕ) (o q : ℕ) : Type 0 where

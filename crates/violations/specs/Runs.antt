@@ -1,13 +1,17 @@
 -- Document 01, "Runs". The table `runs` has the runs marked *, in the document's order, with the verdict that it gives for each.
 -- The table `picks` shows what is reported where they leave it open: its first three rows are the document's other runs with
--- a verdict, the rest have several occurrences, ties or open adds. What a run and a row are is said in the crate history.
+-- a verdict, the rest have several occurrences, ties or open adds. `cellRuns` and `openRuns` are for cells and open removes, of
+-- document 02. What a run and a row are is said in the crate history.
 use Prim.Native.Nat.{ℕ}
 use mathlib.Core.List.{List, [], _∷_}
 use Rattle.record.specs.declared.record.Removed.the-variants.{Value, Empty}
 use Rattle.record.specs.declared.record.Event.the-variants.{CallAdd, CallRemove, ReturnAdd, ReturnRemove}
+use Rattle.history.specs.Object.{Object, Queue}
 use Rattle.history.specs.History.{History}
 use Rattle.history.specs.Runs.{Row}
-use Rattle.violations.specs.Verdict.{FirstViolation, JudgedLinearization}
+use Rattle.history.specs.Sheet.{orderVerdict}
+use Rattle.violations.specs.Verdict.{FirstViolation, JudgedLinearization, Verdict}
+use Rattle.violations.specs.Fates.{taking, Settled}
 
 -- the verdict given for a run: an order, or a pattern with the operations that it lists
 pub data Expected : Type 0 where
@@ -15,9 +19,9 @@ pub data Expected : Type 0 where
   violation : ℕ → List ℕ → Expected
 
 -- What a row says of the verdict is right for a history.
-abbrev pub Judged : History → Expected → Type 0
-Judged h (linearization listed) = JudgedLinearization h listed
-Judged h (violation number listed) = FirstViolation h number listed
+abbrev pub Judged : Object → History → Expected → Type 0
+Judged object h (linearization listed) = JudgedLinearization object h listed
+Judged object h (violation number listed) = FirstViolation object h number listed
 
 abbrev pub runs : List (Row Expected)
 runs =
@@ -81,4 +85,101 @@ picks =
     record { run = (0, CallAdd 1) ∷ (0, ReturnAdd) ∷ (1, CallAdd 2) ∷ (1, ReturnAdd) ∷ (2, CallRemove) ∷ (2, ReturnRemove Empty) ∷ []; says = violation 6 (2 ∷ 0 ∷ []) } ∷
     -- A1( A1) Ra( Ra-) Rb( Rb-): both are false, the lowest empty remove, pattern 6, 1 0
     record { run = (0, CallAdd 1) ∷ (0, ReturnAdd) ∷ (1, CallRemove) ∷ (1, ReturnRemove Empty) ∷ (2, CallRemove) ∷ (2, ReturnRemove Empty) ∷ []; says = violation 6 (1 ∷ 0 ∷ []) } ∷
+    []
+
+-- Runs of a cell: W7( and W7) call and return a write, R( and R7) or R-) a read.
+abbrev pub cellRuns : List (Row Expected)
+cellRuns =
+    -- R( R9): 7, 0
+    record { run = (0, CallRemove) ∷ (0, ReturnRemove (Value 9)) ∷ []; says = violation 7 (0 ∷ []) } ∷
+    -- R( R7) W7( W7): 8, 0 1
+    record { run = (0, CallRemove) ∷ (0, ReturnRemove (Value 7)) ∷ (1, CallAdd 7) ∷ (1, ReturnAdd) ∷ []; says = violation 8 (0 ∷ 1 ∷ []) } ∷
+    -- W1( W1) W2( W2) R( R1): 9, 0 1 1 2
+    record { run = (0, CallAdd 1) ∷ (0, ReturnAdd) ∷ (1, CallAdd 2) ∷ (1, ReturnAdd) ∷ (2, CallRemove) ∷ (2, ReturnRemove (Value 1)) ∷ []; says = violation 9 (0 ∷ 1 ∷ 1 ∷ 2 ∷ []) } ∷
+    -- W1( W2( W1) W2) Ra( Ra1) Rb( Rb2): 9, 0 3 1 2
+    record {
+      run = (0, CallAdd 1) ∷ (1, CallAdd 2) ∷ (0, ReturnAdd) ∷ (1, ReturnAdd) ∷ (2, CallRemove) ∷ (2, ReturnRemove (Value 1)) ∷ (3, CallRemove) ∷ (3, ReturnRemove (Value 2)) ∷ [];
+      says = violation 9 (0 ∷ 3 ∷ 1 ∷ 2 ∷ []);
+    } ∷
+    -- W1( R( R1) W2( W2) Rb( Rb1): 9, 1 2 2 3; the open write precedes nothing
+    record {
+      run = (0, CallAdd 1) ∷ (1, CallRemove) ∷ (1, ReturnRemove (Value 1)) ∷ (2, CallAdd 2) ∷ (2, ReturnAdd) ∷ (3, CallRemove) ∷ (3, ReturnRemove (Value 1)) ∷ [];
+      says = violation 9 (1 ∷ 2 ∷ 2 ∷ 3 ∷ []);
+    } ∷
+    -- W1( W1) R( R-): 10, 0 1
+    record { run = (0, CallAdd 1) ∷ (0, ReturnAdd) ∷ (1, CallRemove) ∷ (1, ReturnRemove Empty) ∷ []; says = violation 10 (0 ∷ 1 ∷ []) } ∷
+    -- Ra( Ra-) W1( W1) Rb( Rb-) Rc( Rc-): 10, 1 2
+    record {
+      run = (0, CallRemove) ∷ (0, ReturnRemove Empty) ∷ (1, CallAdd 1) ∷ (1, ReturnAdd) ∷ (2, CallRemove) ∷ (2, ReturnRemove Empty) ∷ (3, CallRemove) ∷ (3, ReturnRemove Empty) ∷ [];
+      says = violation 10 (1 ∷ 2 ∷ []);
+    } ∷
+    -- Ra( W7( Ra7) W7) Rb( Rb-): a read may be called before the write of its value, 10, 0 2
+    record {
+      run = (0, CallRemove) ∷ (1, CallAdd 7) ∷ (0, ReturnRemove (Value 7)) ∷ (1, ReturnAdd) ∷ (2, CallRemove) ∷ (2, ReturnRemove Empty) ∷ [];
+      says = violation 10 (0 ∷ 2 ∷ []);
+    } ∷
+    -- W1( Ra( Ra-) W1) Rb( Rb-): an initial read may be called after a write that has not returned, 10, 0 2
+    record {
+      run = (0, CallAdd 1) ∷ (1, CallRemove) ∷ (1, ReturnRemove Empty) ∷ (0, ReturnAdd) ∷ (2, CallRemove) ∷ (2, ReturnRemove Empty) ∷ [];
+      says = violation 10 (0 ∷ 2 ∷ []);
+    } ∷
+    -- W1( W1) Ra( Ra1) Rb( Rb-): the operations on one value do not cross, 10, 0 2
+    record {
+      run = (0, CallAdd 1) ∷ (0, ReturnAdd) ∷ (1, CallRemove) ∷ (1, ReturnRemove (Value 1)) ∷ (2, CallRemove) ∷ (2, ReturnRemove Empty) ∷ [];
+      says = violation 10 (0 ∷ 2 ∷ []);
+    } ∷
+    -- W1( R( R1): order 0 1; the value of the open write was read
+    record { run = (0, CallAdd 1) ∷ (1, CallRemove) ∷ (1, ReturnRemove (Value 1)) ∷ []; says = linearization (0 ∷ 1 ∷ []) } ∷
+    -- W1( R( R-): order 1
+    record { run = (0, CallAdd 1) ∷ (1, CallRemove) ∷ (1, ReturnRemove Empty) ∷ []; says = linearization (1 ∷ []) } ∷
+    -- W1( W2( W1) W2) R( R1): order 1 0 2
+    record { run = (0, CallAdd 1) ∷ (1, CallAdd 2) ∷ (0, ReturnAdd) ∷ (1, ReturnAdd) ∷ (2, CallRemove) ∷ (2, ReturnRemove (Value 1)) ∷ []; says = linearization (1 ∷ 0 ∷ 2 ∷ []) } ∷
+    -- Ra( W1( Rb( Ra1) W1) Rb-): order 2 1 0
+    record {
+      run = (0, CallRemove) ∷ (1, CallAdd 1) ∷ (2, CallRemove) ∷ (0, ReturnRemove (Value 1)) ∷ (1, ReturnAdd) ∷ (2, ReturnRemove Empty) ∷ [];
+      says = linearization (2 ∷ 1 ∷ 0 ∷ []);
+    } ∷
+    -- Ra( Rb( W0( W0): two reads that do not return, order 2
+    record { run = (0, CallRemove) ∷ (1, CallRemove) ∷ (2, CallAdd 0) ∷ (2, ReturnAdd) ∷ []; says = linearization (2 ∷ []) } ∷
+    -- Ra( W0( W0) Rb( Rb0): the value 0 is read, though not by the read that does not return, order 1 2
+    record { run = (0, CallRemove) ∷ (1, CallAdd 0) ∷ (1, ReturnAdd) ∷ (2, CallRemove) ∷ (2, ReturnRemove (Value 0)) ∷ []; says = linearization (1 ∷ 2 ∷ []) } ∷
+    []
+
+-- What a row says of a run of a queue with a remove that does not return: what becomes of it, and the operations listed. It is
+-- left out; or, where that fails, remove o takes the value of add a; or the pattern stays, since that fate fails too.
+pub data Settling : Type 0 where
+  leaves-out : List ℕ → Settling
+  takes : ℕ → ℕ → List ℕ → Settling
+  fails : ℕ → ℕ → ℕ → List ℕ → Settling
+
+-- It is right: this is the verdict, with this fate.
+abbrev pub Settles : History → Settling → Type 0
+Settles h (leaves-out listed) = Verdict Queue h orderVerdict listed
+Settles h (takes o a listed) = Settled Queue h (taking h o a) × JudgedLinearization Queue (taking h o a) listed
+Settles h (fails o a number listed) = Verdict Queue h number listed
+
+-- All of them end with a return, so that no call stands at the last position, and the remove may come back there.
+abbrev pub openRuns : List (Row Settling)
+openRuns =
+    -- Ra( A0( A0): the value 0 was not removed, though the entry of the remove that does not return is 0 too; order 1
+    record { run = (0, CallRemove) ∷ (1, CallAdd 0) ∷ (1, ReturnAdd) ∷ []; says = leaves-out (1 ∷ []) } ∷
+    -- A0( Ra( R( R0): order 0 2
+    record { run = (0, CallAdd 0) ∷ (1, CallRemove) ∷ (2, CallRemove) ∷ (2, ReturnRemove (Value 0)) ∷ []; says = leaves-out (0 ∷ 2 ∷ []) } ∷
+    -- A1( A1) A2( A2) Ra( R( R2): left out it is pattern 4; Ra takes 1, order 0 1 2 3
+    record {
+      run = (0, CallAdd 1) ∷ (0, ReturnAdd) ∷ (1, CallAdd 2) ∷ (1, ReturnAdd) ∷ (2, CallRemove) ∷ (3, CallRemove) ∷ (3, ReturnRemove (Value 2)) ∷ [];
+      says = takes 2 0 (0 ∷ 1 ∷ 2 ∷ 3 ∷ []);
+    } ∷
+    -- A1( A1) Ra( R( R-): left out it is pattern 6; Ra takes 1, order 0 1 2
+    record { run = (0, CallAdd 1) ∷ (0, ReturnAdd) ∷ (1, CallRemove) ∷ (2, CallRemove) ∷ (2, ReturnRemove Empty) ∷ []; says = takes 1 0 (0 ∷ 1 ∷ 2 ∷ []) } ∷
+    -- A1( A1) Ra( Rb( Rb1) A2( A2) R( R-): 1 is removed, so Ra takes 2, which was added later; order 0 2 3 1 4
+    record {
+      run = (0, CallAdd 1) ∷ (0, ReturnAdd) ∷ (1, CallRemove) ∷ (2, CallRemove) ∷ (2, ReturnRemove (Value 1)) ∷ (3, CallAdd 2) ∷ (3, ReturnAdd) ∷ (4, CallRemove) ∷ (4, ReturnRemove Empty) ∷ [];
+      says = takes 1 3 (0 ∷ 2 ∷ 3 ∷ 1 ∷ 4 ∷ []);
+    } ∷
+    -- A1( A1) A2( A2) Ra( R( R-): if Ra takes 1, R still meets 2; pattern 6, 3 0
+    record {
+      run = (0, CallAdd 1) ∷ (0, ReturnAdd) ∷ (1, CallAdd 2) ∷ (1, ReturnAdd) ∷ (2, CallRemove) ∷ (3, CallRemove) ∷ (3, ReturnRemove Empty) ∷ [];
+      says = fails 2 0 6 (3 ∷ 0 ∷ []);
+    } ∷
     []

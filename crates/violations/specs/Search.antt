@@ -1,5 +1,6 @@
--- The theory of the search, as code sees it: what holds when operations are placed one after the other on a queue of adds. `reach` and `gap` are tables of
--- the code: where the value of an add stops covering, and a gap of an empty remove. What the judge answers can be understood without this file.
+-- The theory of the search for an order of a queue's history, as code sees it: what holds when operations are placed one after
+-- the other on a queue of adds. `reach` and `gap` are tables of the code: where the value of an add stops covering, and a gap of
+-- an empty remove. What the judge answers can be understood without this file.
 use Prim.Native.Nat.{ℕ, _≤_, _<_}
 use mathlib.Core.Path.{_≡_}
 use mathlib.Core.Logic.{_⊎_, _↔_}
@@ -8,7 +9,7 @@ use lib.ListN.{length}
 use Rattle.history.specs.History.{History, add, remove, emptyRemove, Precedes}
 use Rattle.history.specs.Linearization.{Fifo, placed, Listed}
 use Rattle.violations.specs.Violations.{Is, RemoveOf, Gap, Reaches, Covered}
-use Rattle.violations.specs.Found.{Due, Left}
+use Rattle.violations.specs.Greedy.{Left, Begun}
 
 -- Pattern 2 does not occur: no value is removed twice.
 abbrev pub Single : History → Type 0
@@ -45,12 +46,7 @@ pub record Queued (h : History) (reach gap : ℕ → ℕ) (order queue : List �
 
 -- How the search stands: the operations of `order` are placed, and the adds of `queue` are in the queue.
 pub record Searched (h : History) (reach gap : ℕ → ℕ) (order queue : List ℕ) : Type 0 where
-  -- what is placed is to be listed, each operation once
-  pub due : (i : ℕ) → i < length order → Due h (placed order i)
-  pub once : (i j : ℕ) → i < j → j < length order → placed order i ≡ placed order j → ⊥
-  -- nothing placed comes before what precedes it, whether that is placed or left
-  pub keeps : (i j : ℕ) → i < j → j < length order → Precedes h (placed order j) (placed order i) → ⊥
-  pub ahead : (i p : ℕ) → i < length order → Left h order p → Precedes h p (placed order i) → ⊥
+  pub begun : Begun h order
   -- what can be run on the queue can be run behind the order
   pub runs : (more : List ℕ) → Fifo h more (map (h .value) queue) → Fifo h (order ++ more) []
   pub queued : Queued h reach gap order queue

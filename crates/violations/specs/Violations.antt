@@ -1,15 +1,13 @@
--- Document 01, "The six patterns": a record for each row of its table, in the table's order. The operations that a record
--- is about stand in the order in which the table lists them.
+-- Document 01, "The six patterns" of a queue: a record for each row of its table, in the table's order. The operations that a record
+-- is about stand in the order in which the table lists them. The four patterns of a cell are in Cells.antt.
 use Prim.Native.Nat.{ℕ, _≤_, _<_}
 use mathlib.Core.Path.{_≡_}
 use mathlib.Core.Logic.{_⊎_}
 use mathlib.Core.List.{List, [], _∷_}
 use Rattle.history.specs.History.{History, add, remove, emptyRemove, Precedes}
-
--- o is an operation of this kind
-pub record Is (h : History) (kind o : ℕ) : Type 0 where
-  pub known : o < h .count
-  pub kinds : h .kind o ≡ kind
+use Rattle.history.specs.Object.{Object, Queue, Cell}
+pub use Rattle.violations.specs.Operation.{Is}
+use Rattle.violations.specs.Cells.{Unwritten, Premature, Crossed, Stale}
 
 -- r is a remove of the value of a (that a is an add is said apart)
 pub record RemoveOf (h : History) (a r : ℕ) : Type 0 where
@@ -104,14 +102,18 @@ pub record FalseEmpty (h : History) (e : ℕ) (chain : List ℕ) : Type 0 where
   pub chained : Chain h (h .ret e) (h .call e) chain
 
 -- A pattern occurs, by its number, with the operations that it lists.
-pub data Occurs (h : History) : ℕ → List ℕ → Type 0 where
-  unknown : {r : ℕ} → Unknown h r → Occurs h 1 (r ∷ [])
-  twice : {r s : ℕ} → Twice h r s → Occurs h 2 (r ∷ s ∷ [])
-  early : {r a : ℕ} → Early h r a → Occurs h 3 (r ∷ a ∷ [])
-  stuck : {a b r : ℕ} → Stuck h a b r → Occurs h 4 (a ∷ b ∷ r ∷ [])
-  overtaken : {a b r s : ℕ} → Overtaken h a b r s → Occurs h 5 (a ∷ b ∷ r ∷ s ∷ [])
-  falseEmpty : {e : ℕ} {chain : List ℕ} → FalseEmpty h e chain → Occurs h 6 (e ∷ chain)
+pub data Occurs : Object → History → ℕ → List ℕ → Type 0 where
+  unknown : {h : History} {r : ℕ} → Unknown h r → Occurs Queue h 1 (r ∷ [])
+  twice : {h : History} {r s : ℕ} → Twice h r s → Occurs Queue h 2 (r ∷ s ∷ [])
+  early : {h : History} {r a : ℕ} → Early h r a → Occurs Queue h 3 (r ∷ a ∷ [])
+  stuck : {h : History} {a b r : ℕ} → Stuck h a b r → Occurs Queue h 4 (a ∷ b ∷ r ∷ [])
+  overtaken : {h : History} {a b r s : ℕ} → Overtaken h a b r s → Occurs Queue h 5 (a ∷ b ∷ r ∷ s ∷ [])
+  falseEmpty : {h : History} {e : ℕ} {chain : List ℕ} → FalseEmpty h e chain → Occurs Queue h 6 (e ∷ chain)
+  unwritten : {h : History} {r : ℕ} → Unwritten h r → Occurs Cell h 7 (r ∷ [])
+  premature : {h : History} {r w : ℕ} → Premature h r w → Occurs Cell h 8 (r ∷ w ∷ [])
+  crossed : {h : History} {o p q r : ℕ} → Crossed h o p q r → Occurs Cell h 9 (o ∷ p ∷ q ∷ r ∷ [])
+  stale : {h : History} {o i : ℕ} → Stale h o i → Occurs Cell h 10 (o ∷ i ∷ [])
 
 -- No pattern occurs.
-abbrev pub NoViolation : History → Type 0
-NoViolation h = (n : ℕ) (listed : List ℕ) → Occurs h n listed → ⊥
+abbrev pub NoViolation : Object → History → Type 0
+NoViolation object h = (n : ℕ) (listed : List ℕ) → Occurs object h n listed → ⊥

@@ -17,6 +17,7 @@ use Rattle.reader.specs.Log.{maxRecords, maxLength, Reading, readable, refused,
 use Rattle.reader.specs.Readable.{Within}
 use Rattle.reader.specs.declared.log.Checked.the-variants as check
 use Rattle.reader.proofs.Laws.{within, checked-refused, few-operations}
+use Rattle.history.specs.Object.{Queue}
 use Rattle.history.specs.Operations.{historyOf}
 use Rattle.violations.specs.Violations.{NoViolation}
 use Rattle.violations.proofs.Laws.{SomeViolation, first-violation}
@@ -139,12 +140,13 @@ pub excerpt-fits : {reading : Reading} → Known reading → (out : List ℕ) �
 excerpt-fits (standing some) out = omega arith
 excerpt-fits (of-log log) out = go (readLog log) (within log)
   where
-    of-pattern : (records : List Record) → (found : SomeViolation (historyOf records) ⊎ NoViolation (historyOf records)) → indexOf (excerptAnswerOf records found out) < refusalUnit
+    of-pattern : (records : List Record) → (found : SomeViolation Queue (historyOf records) ⊎ NoViolation Queue (historyOf records))
+        → indexOf (excerptAnswerOf records found out) < refusalUnit
     of-pattern records (inl (number, listed, first)) = writing-fits (encodeLog (excerpted records listed)) out
     of-pattern records (inr clean) = omega arith
 
     go : (reading : Reading) → Within reading → indexOf (excerptAnswer reading out) < refusalUnit
-    go (readable records) few = of-pattern records (first-violation (historyOf records))
+    go (readable records) few = of-pattern records (first-violation Queue (historyOf records))
     go (refused number index) few = omega (arith, few .2)
 
 -- An answer of narrowing or of the excerpt is a number of bytes that a log may have, or a refusal with a number and an index.
@@ -169,12 +171,13 @@ narrow-fine log bytes values out = go (readLog log) refl (within log)
 pub excerpt-fine : (log : List ℕ) → Bytes log → (out : List ℕ) → Fine (excerptAnswer (readLog log) out)
 excerpt-fine log bytes out = go (readLog log) refl (within log)
   where
-    of-pattern : (records : List Record) → readLog log ≡ readable records → (found : SomeViolation (historyOf records) ⊎ NoViolation (historyOf records)) → Fine (excerptAnswerOf records found out)
+    of-pattern : (records : List Record) → readLog log ≡ readable records
+        → (found : SomeViolation Queue (historyOf records) ⊎ NoViolation Queue (historyOf records)) → Fine (excerptAnswerOf records found out)
     of-pattern records reads (inl (number, listed, first)) = writing-fine (encodeLog (excerpted records listed)) out (projection-short log records reads bytes listed (valuesOf (historyOf records) listed))
     of-pattern records reads (inr clean) = fine-refused {number = noPattern} {index = 0} (omega arith) (omega arith)
 
     go : (reading : Reading) → readLog log ≡ reading → Within reading → Fine (excerptAnswer reading out)
-    go (readable records) reads few = of-pattern records reads (first-violation (historyOf records))
+    go (readable records) reads few = of-pattern records reads (first-violation Queue (historyOf records))
     go (refused number index) reads few = fine-refused {number = number} {index = index} (few .0) (omega (arith, few .2))
 
 pub written-accepted : {n : ℕ} → Fine (projection.Written n) → AcceptedWith (projectionAnswer (projection.Written n)) n
@@ -234,14 +237,15 @@ judge-says {reading} known {sheet} {sheet'} {answer} a = go (a .verdict) (a .jud
 -- and of the excerpt so does a refusal
 pub excerpt-untouched : (reading : Reading) (out : List ℕ) {number index : ℕ} → excerptAnswer reading out ≡ projection.Refused number index → excerptLeaves reading out ≡ out
 excerpt-untouched (refused n i) out e = refl
-excerpt-untouched (readable records) out {number} {index} e = go (first-violation (historyOf records)) e
+excerpt-untouched (readable records) out {number} {index} e = go (first-violation Queue (historyOf records)) e
   where
     room : (bytes : List ℕ) (lacks : Bool) → (if lacks then projection.Refused bufferTooShort 0 else projection.Written (length bytes)) ≡ projection.Refused number index
         → (if lacks then out else bytes ++ drop (length bytes) out) ≡ out
     room bytes true e = refl
     room bytes false e = let z : _≡_ {A = ℕ} 0 1 = cc in absurd (omega arith)
 
-    go : (found : SomeViolation (historyOf records) ⊎ NoViolation (historyOf records)) → excerptAnswerOf records found out ≡ projection.Refused number index → excerptLeavesOf records found out ≡ out
+    go : (found : SomeViolation Queue (historyOf records) ⊎ NoViolation Queue (historyOf records))
+        → excerptAnswerOf records found out ≡ projection.Refused number index → excerptLeavesOf records found out ≡ out
     go (inl (n, listed, first)) e = room (encodeLog (excerpted records listed)) (lacksRoom (encodeLog (excerpted records listed)) out) e
     go (inr clean) e = refl
 

@@ -1,11 +1,10 @@
 -- `fits` meets its contract.
 use native.Mathlib.Omega.{arith}
 use mathlib.Core.Path.{_≡_}
-use Rattle.history.specs.History.{emptyRemove}
-use Rattle.history.specs.Table.{tabled, kindAt}
+use Rattle.history.specs.Table.{tabled}
 use Rattle.matching.proofs.Tests.{decided-less, decided-equal}
 use Rattle.search.specs.Searching.{Fit, adds, removes, empties}
-use Rattle.search.proofs.Fitting.{front-known, fit-add, fit-remove, fit-empty}
+use Rattle.search.proofs.Fitting.{front-known, fit-add, fit-remove, fit-empty, fit-some}
 use borrow.Author.Needs.{needs}
 use Rattle.search.proofs.search.fits.Statement.{statement}
 use Rattle.search.proofs.search.fits.Tie as tie
@@ -68,7 +67,13 @@ returns-3 : tie.Need-returns-3
 returns-3 c = decided-equal {P = Fit (tabled (c .before .before .before .before .before .before .before .args .count) (c .before .before .before .before .before .before .before .args .end) (c .before .before .before .before .before .before .before .args .table .now)) (c .before .before .before .before .before .before .before .args .reach .now) (c .before .before .before .before .before .before .before .args .queue .now) (c .before .before .before .before .before .before .before .args .s) (c .before .before .before .before .before .before .before .args .cap) (c .before .before .before .before .before .before .before .args .o)} _ _ (removes (c .before .before .before .before .before .match .keys2) (c .before .before .before .if1 .left)) (λ fit. fit-remove fit (c .before .before .before .before .before .match .keys2) .1)
 
 returns-4 : tie.Need-returns-4
-returns-4 c = let empty : kindAt (c .before .before .before .args .table .now) (c .before .before .before .args .o) ≡ emptyRemove = omega (arith, c .before .before .before .pre .0 .lawful .kinds _ (c .before .before .before .pre .2), c .before .match .rest .0 .1, c .before .match .rest .1) in decided-equal {P = Fit (tabled (c .before .before .before .args .count) (c .before .before .before .args .end) (c .before .before .before .args .table .now)) (c .before .before .before .args .reach .now) (c .before .before .before .args .queue .now) (c .before .before .before .args .s) (c .before .before .before .args .cap) (c .before .before .before .args .o)} _ _ (empties empty) (λ fit. fit-empty fit empty)
+returns-4 c =
+    let a = c .before .before .before .args in
+    decided-equal {P = Fit (tabled (a .count) (a .end) (a .table .now)) (a .reach .now) (a .queue .now) (a .s) (a .cap) (a .o)} _ _
+    (empties (c .before .match .keys3)) (λ fit. fit-empty fit (c .before .match .keys3))
+
+returns-5 : tie.Need-returns-5
+returns-5 c = λ fit. omega (arith, fit-some fit, c .match .rest .0 .0 .1, c .match .rest .0 .1, c .match .rest .1)
 
 pub fits-spec : {M : Type 1} → statement M
 fits-spec =
@@ -93,4 +98,5 @@ fits-spec =
     element-copy-out-result-3
     returns-2
     returns-3
-    returns-4)
+    returns-4
+    returns-5)

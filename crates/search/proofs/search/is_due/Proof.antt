@@ -1,7 +1,7 @@
 -- `is_due` meets its contract.
-use mathlib.Core.Logic.{inl}
 use Rattle.matching.proofs.Tests.{decided-less}
 use Rattle.search.proofs.Due.{reach-due, due-reach}
+use Rattle.violations.proofs.Laws.{returned-due}
 use borrow.Author.Needs.{needs}
 use Rattle.search.proofs.search.is_due.Statement.{statement}
 use Rattle.search.proofs.search.is_due.Tie as tie
@@ -22,7 +22,7 @@ cast-if1 : tie.Need-cast-if1
 cast-if1 c = search needs
 
 returns : tie.Need-returns
-returns c = record { known = c .before .before .pre .2; listed = inl (c .if1 .taken) }
+returns c = returned-due (c .before .before .pre .0 .lawful) _ (c .before .before .pre .2) (c .if1 .taken)
 
 mul-result : tie.Need-mul-result
 mul-result c = search needs
