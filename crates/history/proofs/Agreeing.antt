@@ -8,7 +8,7 @@ use lib.ListN.{length}
 use Rattle.history.specs.History.{History}
 use Rattle.history.specs.Object.{Object, Queue, Cell}
 use Rattle.history.specs.Register.{Content, Stores, writes, reads, reads-initial}
-use Rattle.history.specs.Linearization.{Makes, puts, takes, meets, Moves, makes, takes-front, finds-none, Runs, placed, Ordering, Linearization, CompleteLinearization}
+use Rattle.history.specs.Linearization.{Makes, puts, takes, meets, Moves, makes, takes-front, finds-none, Runnable, placed, Ordering, Linearization, CompleteLinearization}
 use Rattle.history.specs.Table.{Agree}
 use Rattle.history.proofs.Running.{run-over}
 
@@ -41,7 +41,7 @@ agree-stores a o l (reads-initial e) = reads-initial (sym (a .kind o l) ∙ e)
 
 -- operations that can be run in one can be run in the other
 agree-runs : (object : Object) {h k : History} → Agree h k → (order : List ℕ) → ((i : ℕ) → i < length order → placed order i < h .count)
-    → Runs object h order → Runs object k order
+    → Runnable object h order → Runnable object k order
 agree-runs Queue a order known run = run-over (λ i l queue queue'. agree-moves a (placed order i) (known i l)) run
 agree-runs Cell a order known run = run-over (λ i l c c'. agree-stores a (placed order i) (known i l)) run
 

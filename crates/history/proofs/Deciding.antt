@@ -10,7 +10,7 @@ use Rattle.reader.proofs.Search.{Lowest, None, lowest}
 use Rattle.history.specs.History.{History, add, remove, emptyRemove, noKind, Returned, Precedes}
 use Rattle.history.specs.Object.{Object, Queue, Cell}
 use Rattle.history.specs.Register.{Content, initial, holds, Stores, writes, reads, reads-initial}
-use Rattle.history.specs.Linearization.{Makes, puts, takes, meets, Moves, makes, takes-front, finds-none, Runs, placed, Listed, Linearization}
+use Rattle.history.specs.Linearization.{Makes, puts, takes, meets, Moves, makes, takes-front, finds-none, Runnable, placed, Listed, Linearization}
 use Rattle.history.proofs.Basics.{up-to}
 use Rattle.history.proofs.Running.{run?}
 use Rattle.history.proofs.Queues.{moves-one}
@@ -132,7 +132,7 @@ stores? h o (holds v) = go (ℕ-discrete (h .kind o) add) (Dec·and (ℕ-discret
     go (no n) (no m) = no (λ made. neither n m (made .1))
 
 -- whether an order can be run from the start
-unfoldable pub runs? : (object : Object) (h : History) (order : List ℕ) → Dec (Runs object h order)
+unfoldable pub runs? : (object : Object) (h : History) (order : List ℕ) → Dec (Runnable object h order)
 unfolding run? moves? stores?
 runs? Queue h order = run? (λ o queue left right. moves-one) (moves? h) order []
 runs? Cell h order = run? (λ o c left right. stores-one) (stores? h) order initial

@@ -5,7 +5,7 @@ use mathlib.Core.Path.{_≡_, refl}
 use mathlib.Core.List.{List, [], _∷_}
 use Rattle.history.specs.History.{History, add, remove, emptyRemove, RemovesReturned}
 use Rattle.history.specs.Object.{Queue}
-use Rattle.history.specs.Linearization.{Makes, puts, takes, meets, Fifo, Moves, makes, takes-front, finds-none, Runs, placed, Linearization, Kinded, CompleteLinearization}
+use Rattle.history.specs.Linearization.{Makes, puts, takes, meets, Fifo, Moves, makes, takes-front, finds-none, Runnable, placed, Linearization, Kinded, CompleteLinearization}
 use Rattle.history.proofs.Running.{run-over, run-each}
 
 -- an operation makes only one thing of a queue
@@ -45,10 +45,10 @@ moves-one (finds-none e) (makes a) = absurd (omega (arith, makes-kind a))
 moves-one (finds-none e) (finds-none f) = refl
 
 -- what can be run without a pending remove can be run, and the other way round
-pub fifo-runs : {h : History} {order : List ℕ} → Fifo h order [] → Runs Queue h order
+pub fifo-runs : {h : History} {order : List ℕ} → Fifo h order [] → Runnable Queue h order
 fifo-runs run = run-over (λ i l queue queue'. makes) run
 
-runs-fifo : {h : History} {order : List ℕ} → Kinded h order → Runs Queue h order → Fifo h order []
+runs-fifo : {h : History} {order : List ℕ} → Kinded h order → Runnable Queue h order → Fifo h order []
 runs-fifo {h} {order} kinded run = run-over (λ i l queue queue' moved. only moved (kinded i l)) run
   where
     only : {o : ℕ} {queue queue' : List ℕ} → Moves h o queue queue' → add ≤ h .kind o → Makes h o queue queue'

@@ -1,5 +1,5 @@
--- How a table of runs is proved to hold, for the crates above too, and that the two tables of this crate hold. What is read and
--- what is right is computed, for a whole table at once.
+-- How a table of runs is proved to hold, for the crates above too, and that the tables of this crate hold. What is read and what is
+-- right is computed, for a whole table at once.
 use Prim.Native.Nat.{ℕ}
 use mathlib.Core.Path.{_≡_, refl}
 use mathlib.Core.Bool.{true, decide, decide-iff}
@@ -13,7 +13,7 @@ use Rattle.history.specs.Each.{Each}
 use Rattle.history.specs.History.{History}
 use Rattle.history.specs.Object.{Object, Queue, Cell}
 use Rattle.history.specs.Operations.{callIndex, firstOf, positionOf, historyOf}
-use Rattle.history.specs.Runs.{recordsFrom, recordsOf, Row, Holds, Fits, AllLegal, linearizations, NoneLegal, noLinearizations, openLinearizations, noOpenLinearizations, cellLinearizations, noCellLinearizations}
+use Rattle.history.specs.Runs.{recordsFrom, recordsOf, Row, Holds, Correct, AllLegal, linearizations, NoneLegal, noLinearizations, openLinearizations, noOpenLinearizations, cellLinearizations, noCellLinearizations}
 use Rattle.history.proofs.Deciding.{linearization?}
 
 -- whether each of a list has a property
@@ -59,27 +59,27 @@ unfolding decide each? none-legal? history reading
 no-linearizations-hold = rows-hold (none-legal? Queue) noLinearizations refl refl
 
 -- the same without reading a log
-pub rows-fit : {A : Type 0} {Right : History → A → Type 0} (right? : (h : History) (says : A) → Dec (Right h says)) (rows : List (Row A))
-    → decide (each? (λ row. right? (history row) (row .says)) rows) ≡ true → Each (Fits Right) rows
+pub rows-correct : {A : Type 0} {Right : History → A → Type 0} (right? : (h : History) (says : A) → Dec (Right h says)) (rows : List (Row A))
+    → decide (each? (λ row. right? (history row) (row .says)) rows) ≡ true → Each (Correct Right) rows
 unfolding history
-rows-fit {A} {Right} right? rows right = go rows (decide-iff (each? (λ row. right? (history row) (row .says)) rows) .0 right)
+rows-correct {A} {Right} right? rows right = go rows (decide-iff (each? (λ row. right? (history row) (row .says)) rows) .0 right)
   where
-    go : (rows : List (Row A)) → Each (λ row. Right (history row) (row .says)) rows → Each (Fits Right) rows
+    go : (rows : List (Row A)) → Each (λ row. Right (history row) (row .says)) rows → Each (Correct Right) rows
     go [] right = tt
     go (row ∷ rows) right = (record { right = right .0 }, go rows (right .1))
 
-pub open-linearizations-fit : Each (Fits (AllLegal Queue)) openLinearizations
+pub open-linearizations-correct : Each (Correct (AllLegal Queue)) openLinearizations
 unfolding decide each? all-legal? history
-open-linearizations-fit = rows-fit (all-legal? Queue) openLinearizations refl
+open-linearizations-correct = rows-correct (all-legal? Queue) openLinearizations refl
 
-pub no-open-linearizations-fit : Each (Fits (NoneLegal Queue)) noOpenLinearizations
+pub no-open-linearizations-correct : Each (Correct (NoneLegal Queue)) noOpenLinearizations
 unfolding decide each? none-legal? history
-no-open-linearizations-fit = rows-fit (none-legal? Queue) noOpenLinearizations refl
+no-open-linearizations-correct = rows-correct (none-legal? Queue) noOpenLinearizations refl
 
-pub cell-linearizations-fit : Each (Fits (AllLegal Cell)) cellLinearizations
+pub cell-linearizations-correct : Each (Correct (AllLegal Cell)) cellLinearizations
 unfolding decide each? all-legal? history
-cell-linearizations-fit = rows-fit (all-legal? Cell) cellLinearizations refl
+cell-linearizations-correct = rows-correct (all-legal? Cell) cellLinearizations refl
 
-pub no-cell-linearizations-fit : Each (Fits (NoneLegal Cell)) noCellLinearizations
+pub no-cell-linearizations-correct : Each (Correct (NoneLegal Cell)) noCellLinearizations
 unfolding decide each? none-legal? history
-no-cell-linearizations-fit = rows-fit (none-legal? Cell) noCellLinearizations refl
+no-cell-linearizations-correct = rows-correct (none-legal? Cell) noCellLinearizations refl

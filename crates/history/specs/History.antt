@@ -32,7 +32,7 @@ pub record History : Type 0 where
   -- how many operations there are
   pub count : ℕ
   pub kind : ℕ → ℕ
-  -- the value that is added or removed
+  -- the value that is added or removed; of an empty remove, and of what has no kind, it means nothing
   pub value : ℕ → ℕ
   -- the positions of the call and of the return; what is pending (document 01: open) returns at the end
   pub call : ℕ → ℕ
@@ -67,8 +67,8 @@ pub record Lawful (h : History) : Type 0 where
 abbrev pub RemovesReturned : History → Type 0
 RemovesReturned h = (o : ℕ) → o < h .count → add ≤ h .kind o
 
--- What is asked of a queue's history besides: at most one remove has not returned, and if there is one, the last position is
--- spare, behind every call, so that it could return there.
+-- What is asked of a queue's history besides: at most one remove has not returned, and if there is one, no call stands at the
+-- last position, so that it could return there, after every call.
 pub record Lone (h : History) : Type 0 where
   pub one : (o p : ℕ) → o < h .count → p < h .count → h .kind o ≡ noKind → h .kind p ≡ noKind → o ≡ p
   pub spare : (o p : ℕ) → o < h .count → p < h .count → h .kind o ≡ noKind → h .call p + 1 < h .end

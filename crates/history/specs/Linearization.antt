@@ -28,9 +28,9 @@ pub data Moves (h : History) (o : ℕ) : List ℕ → List ℕ → Type 0 where
   finds-none : h .kind o ≡ noKind → Moves h o [] []
 
 -- An order can be run from the start: "from an empty queue", or from a cell that nothing has been written to.
-abbrev pub Runs : Object → History → List ℕ → Type 0
-Runs Queue h order = RunFrom (Moves h) order []
-Runs Cell h order = Register h order initial
+abbrev pub Runnable : Object → History → List ℕ → Type 0
+Runnable Queue h order = RunFrom (Moves h) order []
+Runnable Cell h order = Register h order initial
 
 -- the operation at a place of an order
 abbrev pub placed : List ℕ → ℕ → ℕ
@@ -55,14 +55,14 @@ pub record Ordering (h : History) (order : List ℕ) : Type 0 where
 -- A legal order of a history.
 pub record Linearization (object : Object) (h : History) (order : List ℕ) : Type 0 where
   pub ordering : Ordering h order
-  pub runs : Runs object h order
+  pub runs : Runnable object h order
 
 -- Everything that an order lists has a kind: it leaves out what has not returned, but for adds and writes.
 abbrev pub Kinded : History → List ℕ → Type 0
 Kinded h order = (i : ℕ) → i < length order → add ≤ h .kind (placed order i)
 
 -- A legal order of a queue's history that leaves out a remove that has not returned: Herlihy and Wing's linearization of a
--- complete history. It is a legal order in which everything has a kind, and the other way round (proofs/Queues.antt).
+-- completion of the history. It is a legal order in which everything has a kind, and the other way round (proofs/Queues.antt).
 pub record CompleteLinearization (h : History) (order : List ℕ) : Type 0 where
   pub ordering : Ordering h order
   pub runs : Fifo h order []

@@ -1,6 +1,7 @@
 -- Document 01, "Runs": "A7( calls add of 7, A7) returns it; R( calls remove, R7) and R-) return it. Ticks rise by one; each
--- operation has a client of its own." What a table of runs is, and two tables: lists that are legal orders of a run, and
--- lists that are not. The runs that the document marks * are a table of the crate violations, which knows the patterns.
+-- operation has a client of its own." What a table of runs is, and tables of lists that are legal orders of a run and of lists that
+-- are not: of a queue, of a queue with a remove that does not return, and of a cell. The runs that the document marks * are a table
+-- of the crate violations, which knows the patterns.
 use Prim.Native.Nat.{ℕ, _+_}
 use mathlib.Core.Path.{_≡_}
 use mathlib.Core.List.{List, [], _∷_}
@@ -37,8 +38,9 @@ pub record Holds {A : Type 0} (Right : History → A → Type 0) (row : Row A) :
   pub read : readLog (encodeLog (recordsOf (row .run))) ≡ readable (recordsOf (row .run))
   pub right : Right (historyOf (recordsOf (row .run))) (row .says)
 
--- What the row says is right for the history of the run's records. (No log is read as a run with a remove that does not return.)
-pub record Fits {A : Type 0} (Right : History → A → Type 0) (row : Row A) : Type 0 where
+-- What the row says is right for the history of the run's records. (No log is read yet as one of a cell, or with a remove that does
+-- not return.)
+pub record Correct {A : Type 0} (Right : History → A → Type 0) (row : Row A) : Type 0 where
   pub right : Right (historyOf (recordsOf (row .run))) (row .says)
 
 -- All of the lists are legal orders of a history.
@@ -80,31 +82,38 @@ noLinearizations =
 -- The same with a remove that does not return: it may be left out or stand once, where it takes the front or changes nothing.
 abbrev pub openLinearizations : List (Row (List (List ℕ)))
 openLinearizations =
-    -- A7( R(
+    -- A7( R(: the add and the remove may each be listed or not, in either order
     record { run = (0, CallAdd 7) ∷ (1, CallRemove) ∷ []; says = [] ∷ (0 ∷ []) ∷ (1 ∷ []) ∷ (0 ∷ 1 ∷ []) ∷ (1 ∷ 0 ∷ []) ∷ [] } ∷
     -- A1( A1) A2( A2) Ra( R( R2): Ra takes 1
-    record { run = (0, CallAdd 1) ∷ (0, ReturnAdd) ∷ (1, CallAdd 2) ∷ (1, ReturnAdd) ∷ (2, CallRemove) ∷ (3, CallRemove) ∷ (3, ReturnRemove (Value 2)) ∷ []; says = (0 ∷ 1 ∷ 2 ∷ 3 ∷ []) ∷ [] } ∷
+    record {
+      run = (0, CallAdd 1) ∷ (0, ReturnAdd) ∷ (1, CallAdd 2) ∷ (1, ReturnAdd) ∷ (2, CallRemove) ∷ (3, CallRemove) ∷ (3, ReturnRemove (Value 2)) ∷ [];
+      says = (0 ∷ 1 ∷ 2 ∷ 3 ∷ []) ∷ [];
+    } ∷
     []
 
 abbrev pub noOpenLinearizations : List (Row (List (List ℕ)))
 noOpenLinearizations =
-    -- A1( A1) A2( A2) Ra( R( R2): Ra is left out, or takes 2; it stands twice; the first add precedes it
+    -- A7( A7) Ra(: Ra is listed twice; the add precedes it
+    record { run = (0, CallAdd 7) ∷ (0, ReturnAdd) ∷ (1, CallRemove) ∷ []; says = (0 ∷ 1 ∷ 1 ∷ []) ∷ (1 ∷ 0 ∷ []) ∷ [] } ∷
+    -- A1( A1) A2( A2) Ra( R( R2): 1 is at the front if Ra is left out; if it comes last, too
     record {
       run = (0, CallAdd 1) ∷ (0, ReturnAdd) ∷ (1, CallAdd 2) ∷ (1, ReturnAdd) ∷ (2, CallRemove) ∷ (3, CallRemove) ∷ (3, ReturnRemove (Value 2)) ∷ [];
-      says = (0 ∷ 1 ∷ 3 ∷ []) ∷ (0 ∷ 1 ∷ 2 ∷ 2 ∷ 3 ∷ []) ∷ (2 ∷ 0 ∷ 1 ∷ 3 ∷ []) ∷ [];
+      says = (0 ∷ 1 ∷ 3 ∷ []) ∷ (0 ∷ 1 ∷ 3 ∷ 2 ∷ []) ∷ [];
     } ∷
-    -- A7( A7) Ra( R( R7): Ra stands before R and takes 7, which R cannot take then
+    -- A7( A7) Ra( R( R7): where Ra comes before R it takes 7, which R cannot take then
     record { run = (0, CallAdd 7) ∷ (0, ReturnAdd) ∷ (1, CallRemove) ∷ (2, CallRemove) ∷ (2, ReturnRemove (Value 7)) ∷ []; says = (0 ∷ 1 ∷ 2 ∷ []) ∷ [] } ∷
     []
 
--- Of a cell: W7( is written as A7(.
+-- Of a cell: W7( and W7) call and return a write, R( and R7) or R-) a read.
 abbrev pub cellLinearizations : List (Row (List (List ℕ)))
 cellLinearizations =
-    -- W7( R( R7) Rb( Rb7): two reads of one write, which may have returned or not
+    -- W7( Ra( Ra7) Rb( Rb7): two reads of one value, whose write does not return
     record { run = (0, CallAdd 7) ∷ (1, CallRemove) ∷ (1, ReturnRemove (Value 7)) ∷ (2, CallRemove) ∷ (2, ReturnRemove (Value 7)) ∷ []; says = (0 ∷ 1 ∷ 2 ∷ []) ∷ [] } ∷
     -- W1( R( R-) W1): the read comes first
     record { run = (0, CallAdd 1) ∷ (1, CallRemove) ∷ (1, ReturnRemove Empty) ∷ (0, ReturnAdd) ∷ []; says = (1 ∷ 0 ∷ []) ∷ [] } ∷
-    -- R(: a read that does not return is in no order
+    -- W1(: an open write may be left out or listed
+    record { run = (0, CallAdd 1) ∷ []; says = [] ∷ (0 ∷ []) ∷ [] } ∷
+    -- R(: a read that does not return is left out
     record { run = (0, CallRemove) ∷ []; says = [] ∷ [] } ∷
     []
 
@@ -112,9 +121,9 @@ abbrev pub noCellLinearizations : List (Row (List (List ℕ)))
 noCellLinearizations =
     -- W1( W2( W1) W2) R( R1): the latest write is 2
     record { run = (0, CallAdd 1) ∷ (1, CallAdd 2) ∷ (0, ReturnAdd) ∷ (1, ReturnAdd) ∷ (2, CallRemove) ∷ (2, ReturnRemove (Value 1)) ∷ []; says = (0 ∷ 1 ∷ 2 ∷ []) ∷ [] } ∷
-    -- W1( R( R-): 1 is written before
-    record { run = (0, CallAdd 1) ∷ (1, CallRemove) ∷ (1, ReturnRemove Empty) ∷ []; says = (0 ∷ 1 ∷ []) ∷ [] } ∷
-    -- R( R0) W0(: nothing is written yet, not even 0
+    -- W1( R( R-): 1 is written before; the open write is listed twice
+    record { run = (0, CallAdd 1) ∷ (1, CallRemove) ∷ (1, ReturnRemove Empty) ∷ []; says = (0 ∷ 1 ∷ []) ∷ (1 ∷ 0 ∷ 0 ∷ []) ∷ [] } ∷
+    -- R( W0( R0): nothing is written yet, not even 0
     record { run = (0, CallRemove) ∷ (1, CallAdd 0) ∷ (0, ReturnRemove (Value 0)) ∷ []; says = (0 ∷ 1 ∷ []) ∷ (0 ∷ []) ∷ [] } ∷
     -- R(: a read that does not return is in no order
     record { run = (0, CallRemove) ∷ []; says = (0 ∷ []) ∷ [] } ∷

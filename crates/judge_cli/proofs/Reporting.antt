@@ -88,7 +88,7 @@ readable-reports : (log : List ℕ) {records : List Record} {blank sheet : List 
 readable-reports log {records} {blank} {sheet} {answer} sized reads j = rw answered (record {
   on-sheet = verdict-on-sheet (j .byte) (j .listed) sheet are (omega (arith, ap length held, length-append (sheetOf (j .byte) (j .listed)) (drop (length (sheetOf (j .byte) (j .listed))) blank), long));
   reports = record { byte = j .byte; listed = j .listed; verdict = j .verdict; chosen = j .chosen; lines = ap (λ l. countsOf (readable records) ++ l) line-is };
-  fits = omega (arith, ap length line-is, few, few-operations records, counts-short (length records) (operations records) (omega (arith, few)) (omega (arith, few, few-operations records)), verdict-line-short (j .byte) (j .listed) (verdict-small (j .verdict)) (λ i. omega (arith, known i)), short);
+  fits = omega (arith, ap length line-is, few, few-operations records, counts-short (length records) (operations records) (omega (arith, few)) (omega (arith, few, few-operations records)), verdict-line-short (j .byte) (j .listed) (omega (arith, verdict-small (j .verdict))) (λ i. omega (arith, known i)), short);
 })
   where
     few : length records ≤ maxRecords

@@ -14,6 +14,14 @@ use Rattle.history.specs.History.{History, add, emptyRemove, noKind}
 use Rattle.violations.specs.Parts.{HasValue}
 use Rattle.projection.specs.Projection.{valuesOf, keeps}
 
+-- What has no kind is never kept, whatever is named.
+pub keeps-kinded : (h : History) (empties values : List ℕ) (o : ℕ) → keeps h empties values o ≡ true → add ≤ h .kind o
+keeps-kinded h empties values o k = by (ℕ-discrete (h .kind o) noKind)
+  where
+    by : Dec (h .kind o ≡ noKind) → add ≤ h .kind o
+    by (yes e) = let none : false ≡ true = rw (eq-eqb (h .kind o) noKind e) at k in let z : _≡_ {A = ℕ} 0 1 = cc in absurd (omega arith)
+    by (no n) = omega arith
+
 -- an empty remove is kept by its number, any other operation that has a kind by its value
 keeps-empty : (h : History) (empties values : List ℕ) (o : ℕ) → h .kind o ≡ emptyRemove → keeps h empties values o ≡ isIn o empties
 keeps-empty h empties values o e = rw e refl

@@ -39,6 +39,8 @@ use Rattle.projection.proofs.Picking.{Picked}
 use Rattle.projection.proofs.Turns.{Together, picked-orderly}
 use Rattle.projection.proofs.Owners.{operationAt, keep-picks, operation-own, kept-together}
 use Rattle.projection.proofs.Choosing.{keeps-all-of-value, keeps-listed, each-in}
+-- What has no kind is never kept.
+pub use Rattle.projection.proofs.Choosing.{keeps-kinded}
 use Rattle.projection.proofs.Parts.{OnValues, SameRecords, picked-part, picked-kept, picked-only}
 
 module _ (records : List Record) (empties values : List ℕ) where

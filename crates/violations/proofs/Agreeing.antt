@@ -7,7 +7,7 @@ use mathlib.Core.Path.{_≡_, refl, sym, _∙_}
 use mathlib.Core.Logic.{_⊎_, inl, inr}
 use mathlib.Core.List.{List}
 use Rattle.history.specs.Object.{Queue}
-use Rattle.history.specs.History.{History, add, emptyRemove, Returned, Precedes, Lawful}
+use Rattle.history.specs.History.{History, add, emptyRemove, Returned, Precedes, Lawful, Lone}
 use Rattle.history.specs.Linearization.{Listed}
 use Rattle.history.specs.Table.{Agree}
 use Rattle.history.proofs.Agreeing.{agree-sym}
@@ -30,6 +30,15 @@ agree-lawful {h} {k} a lawful = record {
   apart = λ o p l m e. lawful .apart o p (back l) (back m) (a .ret o (back l) ∙ e ∙ sym (a .call p (back m)));
   numbered = λ o p less m. omega (arith, lawful .numbered o p less (back m), a .call o (omega (arith, back m)), a .call p (back m));
   once = λ x y l m e f same. lawful .once x y (back l) (back m) (a .kind x (back l) ∙ e) (a .kind y (back m) ∙ f) (a .value x (back l) ∙ same ∙ sym (a .value y (back m)));
+}
+  where
+    back : {o : ℕ} → o < k .count → o < h .count
+    back l = agree-known (agree-sym a) l
+
+pub agree-lone : {h k : History} → Agree h k → Lone h → Lone k
+agree-lone {h} {k} a lone = record {
+  one = λ o p l m e f. lone .one o p (back l) (back m) (a .kind o (back l) ∙ e) (a .kind p (back m) ∙ f);
+  spare = λ o p l m e. omega (arith, lone .spare o p (back l) (back m) (a .kind o (back l) ∙ e), a .call p (back m), a .end);
 }
   where
     back : {o : ℕ} → o < k .count → o < h .count

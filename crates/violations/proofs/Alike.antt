@@ -9,8 +9,9 @@ use Rattle.history.specs.Object.{Object}
 use Rattle.history.specs.History.{History, Lawful}
 use Rattle.violations.specs.Violations.{Occurs}
 use Rattle.violations.specs.Verdict.{CompleteVerdict}
-use Rattle.violations.specs.Parts.{HasValue, Part, Kept, Alike}
+use Rattle.violations.specs.Parts.{HasValue, KeptAs, Part, Kept, Alike}
 use Rattle.violations.proofs.Occurrences.{occurs-known}
+use Rattle.violations.proofs.Corresponding.{Correspondence, part-up}
 use Rattle.violations.proofs.Parts.{part-verdict}
 use Rattle.violations.proofs.Lists.{each-map}
 
@@ -47,6 +48,11 @@ alike-part a = record {
   value = a .value;
   whole = λ o p x y e. (a .from o, record { known = a .from-known o (x .known); is = a .forth o (x .known) });
 }
+
+-- So their operations correspond.
+pub alike-same : {h k : History} (a : Alike h k) → Correspondence h k (λ q o. KeptAs h (a .to) o q)
+unfolding alike-part
+alike-same a = part-up (alike-part a)
 
 -- All that a pattern lists is kept.
 alike-keeps : {object : Object} {h k : History} (a : Alike h k) → {n : ℕ} {listed : List ℕ} → Occurs object k n listed → Each (Kept (alike-part a)) listed

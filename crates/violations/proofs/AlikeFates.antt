@@ -6,33 +6,22 @@ use mathlib.Core.Path.{_≡_, refl, sym, ap, _∙_}
 use mathlib.Core.Logic.{_↔_}
 use borrow.Author.Tests.{eq-eqb}
 use Rattle.history.specs.History.{History, add, remove, noKind, Returned, Precedes, Lone}
-use Rattle.violations.specs.Violations.{Is, RemoveOf}
+use Rattle.violations.specs.Violations.{Is}
 use Rattle.violations.specs.Parts.{HasValue, Alike}
 use Rattle.violations.specs.Fates.{taking, Free}
 use Rattle.violations.proofs.Operations.{is-valued}
+use Rattle.violations.proofs.Corresponding.{corresponding-is, corresponding-removed}
+use Rattle.violations.proofs.Alike.{alike-same}
 use Rattle.violations.proofs.Fates.{ComesBack, taking-back}
 
--- an operation is of the same kind in both
+-- An operation is of the same kind in both, and a value that may be taken in one may be taken in the other.
 pub alike-is : {h k : History} (a : Alike h k) {kind o : ℕ} → Is h kind o → Is k kind (a .to o)
-alike-is a {o = o} is = record { known = a .to-known o (is .known); kinds = a .kind o (is .known) ∙ is .kinds }
+alike-is a is = corresponding-is (alike-same a) (record { known = is .known; is = refl }) .0 is
 
--- a value that may be taken in one may be taken in the other
 pub alike-free : {h k : History} (a : Alike h k) {x : ℕ} → Free h x → Free k (a .to x)
-alike-free {h} {k} a {x} free = record { adds = alike-is a (free .adds); unremoved = λ r. free .unremoved (a .from (r .0), back (r .0) (r .1)) }
-  where
-    back : (r : ℕ) → RemoveOf k (a .to x) r → RemoveOf h x (a .from r)
-    back r out = record {
-      removes = is;
-      same =
-          a .value (a .from r) x (is-valued is (omega arith) (omega arith)) (is-valued (free .adds) (omega arith) (omega arith)) .0
-          (ap (k .value) (a .forth r (out .removes .known)) ∙ out .same);
-    }
-      where
-        known : a .from r < h .count
-        known = a .from-known r (out .removes .known)
-
-        is : Is h remove (a .from r)
-        is = record { known = known; kinds = sym (a .kind (a .from r) known) ∙ ap (k .kind) (a .forth r (out .removes .known)) ∙ out .removes .kinds }
+alike-free a free =
+    let adds = alike-is a (free .adds) in
+    record { adds = adds; unremoved = λ r. free .unremoved (corresponding-removed (alike-same a) (record { known = free .adds .known; is = refl }) adds r) }
 
 module _ {h k : History} (a : Alike h k) (lone-h : Lone h) (lone-k : Lone k) {o x : ℕ} (pending : Is h noKind o) (adding : Is h add x) where
   abbrev here : History

@@ -1,4 +1,4 @@
--- A verdict lists operations with numbers below 1,024, if there are no more, and that on a queue has a byte below 10.
+-- A verdict lists operations with numbers below 1,024, if there are no more, and its byte is 0 or the number of a pattern.
 use Prim.Native.Nat.{ℕ, zero, suc, _≤_, _<_}
 use native.Mathlib.Omega.{arith}
 use native.Mathlib.Decide.{decLt}
@@ -7,11 +7,11 @@ use mathlib.Core.List.{List, [], _∷_}
 use lib.ListN.{length, getD, List·getD-eq-default}
 use Rattle.reader.specs.Log.{maxRecords}
 use Rattle.history.specs.Each.{Each}
-use Rattle.history.specs.Object.{Object, Queue}
+use Rattle.history.specs.Object.{Object}
 use Rattle.history.specs.History.{History}
 use Rattle.violations.specs.Fates.{Settled, left-out, took}
 use Rattle.violations.specs.Verdict.{Verdict, CompleteVerdict}
-use Rattle.violations.proofs.Occurrences.{occurs-numbered, occurs-known}
+use Rattle.violations.proofs.Occurrences.{highestNumber, occurs-numbered, occurs-known}
 
 each-below : {n : ℕ} → 0 < n → (xs : List ℕ) → Each (λ o. o < n) xs → (i : ℕ) → getD xs i 0 < n
 each-below l [] known i = l
@@ -40,10 +40,11 @@ verdict-known few (Verdict.violation {listed = o ∷ listed} x none) i =
     let known = occurs-known (x .occurs) in
     omega (arith, each-below (omega (arith, known .0)) (o ∷ listed) known i)
 
-pub verdict-small : {h : History} {byte : ℕ} {listed : List ℕ} → Verdict Queue h byte listed → byte < 10
+-- the verdict byte is at most the highest number of a pattern
+pub verdict-small : {object : Object} {h : History} {byte : ℕ} {listed : List ℕ} → Verdict object h byte listed → byte ≤ highestNumber object
 verdict-small (Verdict.linearization s x) = omega arith
-verdict-small (Verdict.violation x none) = omega (arith, occurs-numbered (x .occurs))
+verdict-small (Verdict.violation x none) = occurs-numbered (x .occurs) .1
 
-pub complete-small : {h : History} {byte : ℕ} {listed : List ℕ} → CompleteVerdict Queue h byte listed → byte < 10
+pub complete-small : {object : Object} {h : History} {byte : ℕ} {listed : List ℕ} → CompleteVerdict object h byte listed → byte ≤ highestNumber object
 complete-small (CompleteVerdict.linearization x) = omega arith
-complete-small (CompleteVerdict.violation x) = omega (arith, occurs-numbered (x .occurs))
+complete-small (CompleteVerdict.violation x) = occurs-numbered (x .occurs) .1

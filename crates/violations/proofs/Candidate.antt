@@ -13,9 +13,7 @@ use Rattle.violations.specs.Violations.{Is, Occurs, NoViolation}
 use Rattle.violations.specs.Verdict.{JudgedLinearization, FirstViolation, Verdict}
 use Rattle.violations.specs.Fates.{taking, Free, takes-value, Succeeds, NoneSucceeds, Settled, took}
 use Rattle.violations.proofs.FirstViolations.{SomeViolation, first-violation}
-use Rattle.violations.proofs.Judged.{judged-complete}
-use Rattle.violations.proofs.Excluding.{excluded}
-use Rattle.violations.proofs.Finding.{found-exists}
+use Rattle.violations.proofs.CompleteVerdicts.{complete-exactly}
 use Rattle.violations.proofs.Fates.{taking-back, taking-takes, comes-back-lawful, Mends, takes-one, mends}
 
 -- No fate succeeds, said of the remove and the add.
@@ -26,10 +24,9 @@ module _ {h : History} (lawful : Lawful h) (lone : Lone h) {o : ℕ} (pending : 
   -- A fate that succeeds where a pattern occurs mends it, by the value of its add.
   pub fate-mends : {n : ℕ} {listed : List ℕ} → Occurs Queue h n listed → {a : ℕ} → Free h a → Succeeds (taking h o a)
       → Mends lawful (taking-back lone pending a) n a
-  fate-mends occurs {a} free (order, legal) =
+  fate-mends occurs {a} free success =
       let c = taking-back lone pending a in
-      let clean : NoViolation Queue (taking h o a) = λ n listed. excluded (comes-back-lawful lawful c) legal in
-      let (x, m) = mends lawful c clean occurs in
+      let (x, m) = mends lawful c (complete-exactly (comes-back-lawful lawful c) .0 success) occurs in
       rw (takes-one lawful c (m .adds) (free .adds) (m .takes) (taking-takes pending (free .adds))) at m
 
   -- So two fates that succeed are one.
@@ -47,7 +44,7 @@ module _ {h : History} (lawful : Lawful h) (lone : Lone h) {o : ℕ} (pending : 
     where
       go : SomeViolation Queue h ⊎ NoViolation Queue h → Returned h a
       go (inl (n, listed, first)) = fate-mends (first .occurs) free success .back
-      go (inr clean) = let (order, judged, found) = found-exists lawful clean in absurd (fails (order, judged-complete judged))
+      go (inr clean) = absurd (fails (complete-exactly lawful .1 clean))
 
   module _ {n : ℕ} {listed : List ℕ} (first : FirstViolation Queue h n listed) where
     pending-same : {p : ℕ} (a : ℕ) → Is h noKind p → Succeeds (taking h p a) → Succeeds (taking h o a)
@@ -80,7 +77,7 @@ module _ {h : History} (lawful : Lawful h) (lone : Lone h) {o : ℕ} (pending : 
           go (no n) = let m = fate-mends (first .occurs) free' success in absurd (omega (arith, m .first a free (λ e. n (sym e)), soonest b free' (m .back)))
 
       pub it-settles : Settled Queue h (taking h o a)
-      it-settles = took pending free (λ (order, legal). excluded lawful legal (first .occurs)) (λ b less free' success. omega (arith, only-one free' success))
+      it-settles = took pending free (λ success. complete-exactly lawful .0 success n listed (first .occurs)) (λ b less free' success. omega (arith, only-one free' success))
 
       pub it-helps : {list : List ℕ} → JudgedLinearization Queue (taking h o a) list → Verdict Queue h orderVerdict list
       it-helps judged = Verdict.linearization it-settles judged

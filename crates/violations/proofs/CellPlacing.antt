@@ -23,6 +23,7 @@ use Rattle.violations.specs.CellSearch.{Current, nothing, wrote, content
 use Rattle.violations.proofs.Lists.{snoc, listed-none, listed-old, listed-new}
 use Rattle.violations.proofs.Operations.{precedes-unless-after}
 use Rattle.violations.proofs.Greedy.{left-before, left-still, Earliest, earliest, called-enabled, earliest-enabled, begun-none, begun-more, begun-judged}
+use Rattle.violations.proofs.CellRuns.{initial-apart}
 use Rattle.violations.proofs.CellOperations.{read-on, due-on}
 use Rattle.violations.proofs.CellDeciding.{on?}
 
@@ -33,29 +34,25 @@ serves-stores (reads (of-written r e)) = cell.reads (r .kinds) e
 serves-stores (writes w all safe) = cell.writes (w .kinds)
 
 -- nothing is written, or there is a latest write, and only one
-abbrev tag : Current → ℕ
-tag nothing = 0
-tag (wrote w) = 1
-
-nothing-apart : {w : ℕ} → nothing ≡ wrote w → ⊥
-nothing-apart e = let z : _≡_ {A = ℕ} 0 1 = ap tag e in omega arith
+nothing-apart : (h : History) {w : ℕ} → nothing ≡ wrote w → ⊥
+nothing-apart h e = initial-apart (ap (contentOf h) e)
 
 wrote-one : {v w : ℕ} → wrote v ≡ wrote w → v ≡ w
 wrote-one {v} {w} e = cc
 
 -- the search starts with nothing placed
 pub cell-starts : {h : History} → Searched h [] nothing
-cell-starts = record {
+cell-starts {h} = record {
   begun = begun-none;
   runs = λ more r. r;
   follows = λ more r. r;
-  current = λ w e. absurd (nothing-apart e);
+  current = λ w e. absurd (nothing-apart h e);
   served = λ r w is l is' same. inl (record {
     due = record { known = is' .known; kinded = omega (arith, is' .kinds); listed = inr (r, record { removes = is; same = same }) };
     unplaced = listed-none;
   });
   initials = λ i is l. refl;
-  block = λ sound w x y e. absurd (nothing-apart e);
+  block = λ sound w x y e. absurd (nothing-apart h e);
 }
 
 module _ {h : History} (lawful : Lawful h) {order : List ℕ} {c : Current} (s : Searched h order c) where

@@ -9,6 +9,7 @@ use Rattle.history.specs.History.{History, Lawful}
 use Rattle.history.specs.Sheet.{orderVerdict}
 use Rattle.violations.specs.Violations.{Occurs, NoViolation}
 use Rattle.violations.specs.Verdict.{FirstViolation, JudgedLinearization, LowestLinearization, CompleteVerdict}
+use Rattle.violations.specs.Fates.{Succeeds}
 use Rattle.violations.proofs.Lowest.{Compared, lower-total}
 use Rattle.violations.proofs.Judged.{judged-complete}
 use Rattle.violations.proofs.Occurrences.{occurs-some}
@@ -45,6 +46,13 @@ pub judged-exactly : (object : Object) {h : History} → Lawful h → ((order : 
 judged-exactly object lawful = (
   λ found n listed. judged-excluded object lawful (found .1),
   λ clean. let (order, lowest) = lowest-exists object lawful clean in (order, lowest .judged),
+)
+
+-- So does a legal order of a queue's history that leaves a pending remove out: there is an order with it left out exactly then.
+pub complete-exactly : {h : History} → Lawful h → Succeeds h ↔ NoViolation Queue h
+complete-exactly lawful = (
+  λ (order, legal) n listed. excluded lawful legal,
+  λ clean. let (order, judged) = judged-exactly Queue lawful .1 clean in (order, judged-complete judged),
 )
 
 -- Every history has a verdict: the lowest order, or a first pattern.

@@ -1,4 +1,4 @@
--- Which tables are fit for the search.
+-- Which tables are fit for the search for an order of a queue's history.
 use Prim.Native.Nat.{ℕ, _≤_, _<_}
 use native.Mathlib.Omega.{arith}
 use mathlib.Core.Path.{_≡_, sym}

@@ -1,4 +1,4 @@
--- A legal order rules every pattern out.
+-- A legal order of a queue's history that leaves a pending remove out rules every pattern out.
 use Prim.Native.Nat.{ℕ, _+_, _≤_, _<_}
 use native.Mathlib.Omega.{arith}
 use mathlib.Core.Path.{_≡_, refl, sym, ap, _∙_}

@@ -1,19 +1,32 @@
 -- A remove that has not returned comes back last: the history in which it does is lawful, its patterns are those of the history as
 -- it stands but for the value that is taken, and where it mends a pattern, the value that is taken is known.
-use Prim.Native.Nat.{ℕ, _≤_, _<_}
+use Prim.Native.Nat.{ℕ, _-_, _≤_, _<_}
 use native.Mathlib.Omega.{arith}
 use native.Mathlib.Decide.{ℕ-discrete}
 use mathlib.Core.Path.{_≡_, refl, sym, ap, _∙_}
 use mathlib.Core.Logic.{_⊎_, inl, inr}
 use mathlib.Core.List.{List}
+use lib.Dec.{eqb}
 use borrow.Author.Tests.{eq-eqb, ne-eqb}
+use Rattle.record.specs.Choice.{if_then_else_}
 use Rattle.history.specs.Object.{Queue}
 use Rattle.history.specs.History.{History, add, remove, emptyRemove, noKind, Returned, Precedes, Lawful, Lone}
 use Rattle.violations.specs.Violations.{Is, RemoveOf, Removed, Unknown, Twice, Early, Stuck, Overtaken, Gap, Reaches, removed, never, Covers, Covered, AllCovered, Occurs, unknown, twice, early, stuck, overtaken, falseEmpty, NoViolation}
 use Rattle.violations.specs.Found.{LastGap}
-use Rattle.violations.specs.Fates.{comingBack, taking, Free}
+use Rattle.violations.specs.Fates.{taking, Free}
 use Rattle.violations.proofs.Operations.{remove-of?}
 use Rattle.violations.proofs.Chains.{false-empty, last-gap}
+
+-- the history in which operation o comes back last, as an operation of this kind on this value
+abbrev pub comingBack : History → ℕ → ℕ → ℕ → History
+comingBack h o kind value = record {
+  count = h .count;
+  kind = λ p. if eqb p o then kind else h .kind p;
+  value = λ p. if eqb p o then value else h .value p;
+  call = h .call;
+  ret = λ p. if eqb p o then h .end - 1 else h .ret p;
+  end = h .end;
+}
 
 -- k is h, but for operation o, which has not returned in h and comes back in k, after every call, as a remove or an empty remove.
 pub record ComesBack (h k : History) (o : ℕ) : Type 0 where

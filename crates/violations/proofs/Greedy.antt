@@ -11,7 +11,7 @@ use lib.Seq.{append-snoc}
 use Rattle.reader.proofs.Search.{Lowest, None, lowest}
 use Rattle.history.specs.Object.{Object}
 use Rattle.history.specs.History.{History, Returned, Precedes, Lawful}
-use Rattle.history.specs.Linearization.{Runs, placed, Listed}
+use Rattle.history.specs.Linearization.{Runnable, placed, Listed}
 use Rattle.history.proofs.Counting.{different-are-few}
 use Rattle.history.proofs.Deciding.{all-below?, implies?, equivalent?, either?, listed?}
 use Rattle.violations.specs.Violations.{Removed}
@@ -93,7 +93,7 @@ pub begun-few : {h : History} {order : List ℕ} → Begun h order → length or
 begun-few {h} {order} b = different-are-few (placed order) (length order) (h .count) (λ i l. b .due i l .known) (b .once)
 
 -- Where nothing is left, what is placed and can be run is an order as the judge lists it.
-pub begun-judged : (object : Object) {h : History} → Lawful h → {order : List ℕ} → Begun h order → Runs object h order → ((o : ℕ) → Left h order o → ⊥)
+pub begun-judged : (object : Object) {h : History} → Lawful h → {order : List ℕ} → Begun h order → Runnable object h order → ((o : ℕ) → Left h order o → ⊥)
     → JudgedLinearization object h order
 begun-judged object {h} lawful {order} b runs none = record {
   legal = record {

@@ -8,11 +8,12 @@ use mathlib.Core.List.{List}
 use Rattle.history.specs.Each.{Each}
 use Rattle.history.specs.Object.{Object, Queue, Cell}
 use Rattle.history.specs.History.{History, RemovesReturned, Lawful}
-use Rattle.history.specs.Linearization.{Linearization, CompleteLinearization}
+use Rattle.history.specs.Linearization.{Linearization}
 use Rattle.history.specs.Sheet.{orderVerdict}
 use Rattle.violations.specs.Violations.{NoViolation}
 use Rattle.violations.specs.Verdict.{FirstViolation, JudgedLinearization, CompleteVerdict, Verdict}
 use Rattle.violations.specs.Parts.{Part, Kept}
+use Rattle.violations.specs.Fates.{Unfated}
 use Rattle.violations.specs.Search.{Single}
 use Rattle.violations.specs.Found.{Found}
 use Rattle.violations.proofs.Occurrences.{occurs-some}
@@ -31,10 +32,11 @@ pub use Rattle.violations.proofs.Excluding.{Witness, witness-gap, exclu
 pub use Rattle.violations.proofs.CellExcluding.{cell-excluded}
 -- An order as the judge lists it leaves a pending remove out, and lists just what is to be listed.
 pub use Rattle.violations.proofs.Judged.{judged-complete, judged-due, due-judged, returned-due}
--- It rules every pattern out, and one exists exactly if no pattern occurs; where none occurs, there is a lowest one, and only one.
-pub use Rattle.violations.proofs.CompleteVerdicts.{judged-excluded, judged-exactly, lowest-exists, lowest-one}
+-- It rules every pattern out, and one exists exactly if no pattern occurs; where none occurs, there is a lowest one, and only one. So
+-- is there a legal order of a queue's history that leaves a pending remove out.
+pub use Rattle.violations.proofs.CompleteVerdicts.{judged-excluded, judged-exactly, lowest-exists, lowest-one, complete-exactly}
 -- A verdict lists at most 682 operations, if there are at most 1,024 records. Their numbers are below 1,024, and the verdict byte
--- on a queue is below 10.
+-- is at most the highest number of a pattern.
 pub use Rattle.violations.proofs.Lengths.{ReturnsApart, Positions, complete-at-most, listed-at-most}
 pub use Rattle.violations.proofs.Bounds.{verdict-known, verdict-small, complete-small}
 -- The search for an order of a queue's history: it starts, may place whatever is placeable, goes on while something is left, and
@@ -56,40 +58,44 @@ pub use Rattle.violations.proofs.Parts.{part-violations, part-covered, 
 pub use Rattle.violations.proofs.Alike.{alike-sym, alike-part}
 -- Histories that agree on their operations are lawful together and have the same verdicts, and the search finds the same order in
 -- them.
-pub use Rattle.violations.proofs.Agreeing.{agree-lawful, agree-found}
+pub use Rattle.violations.proofs.Agreeing.{agree-lawful, agree-lone, agree-found}
 pub use Rattle.violations.proofs.AgreeingVerdicts.{agree-complete-verdict, agree-verdict}
 -- A remove of a queue that has not returned: a legal order exists exactly if there is one with it left out or with one of its
 -- fates; at most one fate can succeed where leaving it out fails, and only that of the add which returns first of those that are
--- not removed, under patterns 4 and 6.
+-- not removed, under patterns 4 and 6. The history with a fate is lawful.
 pub use Rattle.violations.proofs.OpenRemoves.{linearization-exactly}
-pub use Rattle.violations.proofs.Fates.{Mends}
+pub use Rattle.violations.proofs.Fates.{ComesBack, taking-back, comes-back-lawful, Mends}
 pub use Rattle.violations.proofs.Candidate.{fate-mends, fate-one, others-stay, none-helps, it-settles, it-helps, it-fails}
--- Every history has a verdict, two agree in the verdict byte and, with a pattern, in the operations that they list, and with an
--- order they are about one history. The byte is 0 exactly if there is a legal order; the order listed is one. Any other byte is that
--- of a pattern. Histories that are alike have the same byte.
-pub use Rattle.violations.proofs.Verdicts.{verdict, verdict-one, settled-one, verdict-legal, verdict-exactly, pattern-of, alike-verdict}
+-- Every history has a verdict, and two agree in the verdict byte and, with a pattern, in the operations that they list. With an
+-- order they have settled for one history, which is lawful and has a lowest order, and only one. The byte is 0 exactly if there is a
+-- legal order; the order listed is one. Any other byte is that of a pattern. Histories that are alike have the same byte.
+pub use Rattle.violations.proofs.Verdicts.{verdict, verdict-one, settled-one, settled-lawful, settled-lowest, settled-lowest-one}
+pub use Rattle.violations.proofs.Verdicts.{verdict-legal, verdict-exactly, pattern-of, alike-verdict}
 -- If no remove of a queue is pending, a verdict is one on the history as it stands; of a cell every verdict is.
-pub use Rattle.violations.proofs.Verdicts.{returned-lone, Unfated, complete-is-verdict, verdict-is-complete}
+pub use Rattle.violations.proofs.Verdicts.{returned-lone, complete-is-verdict, verdict-is-complete}
 pub use Rattle.violations.proofs.CompleteVerdicts.{complete-verdict-one, complete-zero, complete-pattern}
 
--- A legal order that leaves a pending remove out, and one of a cell, exists exactly if no pattern occurs.
-pub complete-exactly : {h : History} → Lawful h → ((order : List ℕ) × CompleteLinearization h order) ↔ NoViolation Queue h
-complete-exactly lawful = (
-  λ (order, legal) n listed. excluded lawful legal,
-  λ clean. let (order, judged) = judged-exactly Queue lawful .1 clean in (order, judged-complete judged),
-)
-
+-- A legal order of a cell exists exactly if no pattern occurs. Of its reads any number may be pending: nothing is asked of them.
 pub cell-exactly : {h : History} → Lawful h → ((order : List ℕ) × Linearization Cell h order) ↔ NoViolation Cell h
 cell-exactly lawful = (
   λ (order, legal) n listed. cell-excluded lawful legal,
   λ clean. let (order, judged) = judged-exactly Cell lawful .1 clean in (order, judged .legal),
 )
 
+pub cell-verdict-exactly : {h : History} → Lawful h → {byte : ℕ} {listed : List ℕ} → Verdict Cell h byte listed
+    → (byte ≡ orderVerdict) ↔ ((order : List ℕ) × Linearization Cell h order)
+cell-verdict-exactly lawful v = verdict-exactly Cell lawful tt v
+
 -- A part in which nothing has a fate and that keeps all that the first pattern lists has the same verdict byte.
 pub part-verdict : (object : Object) {h part : History} (p : Part h part) → Lawful h → Lawful part → Unfated object part → {m n : ℕ} {xs ys : List ℕ}
     → FirstViolation object h m xs → Each (Kept p) xs
     → Verdict object part n ys → m ≡ n
 part-verdict object p lawful lawful' unfated first kept v = parts.part-verdict p lawful lawful' first kept (verdict-is-complete object unfated v)
+
+pub cell-part-verdict : {h part : History} (p : Part h part) → Lawful h → Lawful part → {m n : ℕ} {xs ys : List ℕ} → FirstViolation Cell h m xs
+    → Each (Kept p) xs
+    → Verdict Cell part n ys → m ≡ n
+cell-part-verdict p lawful lawful' first kept v = part-verdict Cell p lawful lawful' tt first kept v
 
 -- Of a queue's history in which no remove is pending: the verdict byte 0 is that of an order as the judge lists it,
 pub zero-is-linearization : {h : History} → RemovesReturned h → {byte : ℕ} {listed : List ℕ} → Verdict Queue h byte listed → byte ≡ orderVerdict

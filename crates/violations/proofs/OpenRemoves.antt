@@ -15,14 +15,13 @@ use Rattle.history.specs.Linearization.{Makes, puts, takes, meets, Fifo, Moves,
 use Rattle.history.proofs.Running.{run-over}
 use Rattle.history.proofs.Queues.{makes-kind, complete-linearization, linearization-complete}
 use Rattle.violations.specs.Violations.{Is, RemoveOf, NoViolation}
-use Rattle.violations.specs.Fates.{comingBack, taking, Free, Fate, takes-value, Succeeds}
+use Rattle.violations.specs.Fates.{taking, Free, Fate, takes-value, Succeeds}
 use Rattle.violations.proofs.Lists.{listed-here, listed-behind}
 use Rattle.violations.proofs.Operations.{is?}
-use Rattle.violations.proofs.Judged.{judged-complete}
 use Rattle.violations.proofs.FirstViolations.{SomeViolation, first-violation}
-use Rattle.violations.proofs.Excluding.{Served, served, single, excluded}
-use Rattle.violations.proofs.Finding.{found-exists}
-use Rattle.violations.proofs.Fates.{ComesBack, coming-back, taking-back, comes-back-lawful, is-here, remove-there, mends}
+use Rattle.violations.proofs.Excluding.{Served, served, single}
+use Rattle.violations.proofs.CompleteVerdicts.{complete-exactly}
+use Rattle.violations.proofs.Fates.{comingBack, ComesBack, coming-back, taking-back, comes-back-lawful, is-here, remove-there, mends}
 
 module _ {h k : History} {o : ℕ} (c : ComesBack h k o) where
   -- what another operation makes of a queue it makes of it in both
@@ -168,17 +167,17 @@ module _ {h : History} (lawful : Lawful h) (lone : Lone h) {o : ℕ} (pending : 
 
   -- Back empty, it has changed nothing, so there is an order with it left out.
   back-empty : (value : ℕ) → Succeeds (comingBack h o emptyRemove value) → Succeeds h
-  back-empty value (order, legal) = go (first-violation Queue h)
+  back-empty value success = go (first-violation Queue h)
     where
       c : ComesBack h (comingBack h o emptyRemove value) o
       c = coming-back lone pending emptyRemove value (omega arith) (omega arith)
 
       go : SomeViolation Queue h ⊎ NoViolation Queue h → Succeeds h
       go (inl (n, listed, first)) =
-          let (x, m) = mends lawful c (λ n listed. excluded (comes-back-lawful lawful c) legal) (first .occurs) in
+          let (x, m) = mends lawful c (complete-exactly (comes-back-lawful lawful c) .0 success) (first .occurs) in
           let empty : comingBack h o emptyRemove value .kind o ≡ emptyRemove = rw (eq-eqb o o refl) refl in
           absurd (omega (arith, m .takes .removes .kinds))
-      go (inr clean) = let (other, judged, found) = found-exists lawful clean in (other, judged-complete judged)
+      go (inr clean) = complete-exactly lawful .1 clean
 
   from-run : {order : List ℕ} → Ordering h order → Run order [] → Succeeds h ⊎ ((a : ℕ) × Free h a × Succeeds (taking h o a))
   from-run {order} ordering (without run) = inl (order, record { ordering = ordering; runs = run })

@@ -1,5 +1,5 @@
--- The search for an order, step by step: it starts, it may place any operation that is placeable, and where nothing is
--- left it has listed a legal order. For this only pattern 2 has to be ruled out.
+-- The search for an order of a queue's history, step by step: it starts, it may place any operation that is placeable, and where
+-- nothing is left it has listed a legal order. For this only pattern 2 has to be ruled out.
 use Prim.Native.Nat.{ℕ, suc, _≤_, _<_}
 use native.Mathlib.Omega.{arith}
 use native.Mathlib.Decide.{ℕ-discrete}

@@ -1,4 +1,4 @@
--- While something is left and no pattern occurs, something is placeable.
+-- While something is left and no pattern occurs in a queue's history, something is placeable.
 use Prim.Native.Nat.{ℕ, suc, _≤_, _<_}
 use native.Mathlib.Omega.{arith}
 use native.Mathlib.Decide.{decLt, ℕ-discrete}

@@ -7,17 +7,17 @@ use mathlib.Core.Logic.{_⊎_, Dec·and, Dec·not}
 use Rattle.history.specs.Each.{Each}
 use Rattle.history.specs.Object.{Object, Queue, Cell}
 use Rattle.history.specs.History.{History, add, noKind, Returned, Lawful, Lone}
-use Rattle.history.specs.Runs.{Holds, Fits}
-use Rattle.history.proofs.Deciding.{all-below?, implies?, equivalent?}
-use Rattle.history.proofs.Rows.{each?, history, reading, rows-hold, rows-fit}
+use Rattle.history.specs.Runs.{Holds, Correct}
+use Rattle.history.proofs.Deciding.{all-below?, implies?, equivalent?, some?}
+use Rattle.history.proofs.Rows.{each?, history, reading, rows-hold, rows-correct}
 use Rattle.violations.specs.Violations.{Is}
 use Rattle.violations.specs.Verdict.{FirstViolation, JudgedLinearization, Verdict}
 use Rattle.violations.specs.Fates.{taking, Free, left-out}
-use Rattle.violations.specs.Runs.{Expected, linearization, violation, Judged, runs, picks, cellRuns, Settling, leaves-out, takes, fails, Settles, openRuns}
+use Rattle.violations.specs.Runs.{Expected, linearization, violation, Judged, runs, picks, cellRuns, Settling, leaves-out, lets-take, Settles, openRuns}
 use Rattle.violations.proofs.Lists.{each-map}
 use Rattle.violations.proofs.Operations.{is?}
 use Rattle.violations.proofs.FirstViolations.{SomeViolation, violated?, first-violation?, judged-linearization?}
-use Rattle.violations.proofs.Excluding.{excluded}
+use Rattle.violations.proofs.CompleteVerdicts.{complete-exactly}
 use Rattle.violations.proofs.Fates.{taking-back, comes-back-lawful}
 use Rattle.violations.proofs.Candidate.{it-settles, it-fails}
 use Rattle.violations.proofs.Verdicts.{free?}
@@ -36,9 +36,9 @@ pub picks-hold : Each (Holds (Judged Queue)) picks
 unfolding decide each? judged? history reading
 picks-hold = rows-hold (judged? Queue) picks refl refl
 
-pub cell-runs-fit : Each (Fits (Judged Cell)) cellRuns
+pub cell-runs-correct : Each (Correct (Judged Cell)) cellRuns
 unfolding decide each? judged? history
-cell-runs-fit = rows-fit (judged? Cell) cellRuns refl
+cell-runs-correct = rows-correct (judged? Cell) cellRuns refl
 
 -- whether a history is lawful, with at most one remove pending
 lawful? : (h : History) → Dec (Lawful h)
@@ -77,43 +77,50 @@ lone? h =
 
 -- What is computed of a row with a remove that does not return: that there is an order with it left out, or else that it is
 -- remove o and that of the adds which are not removed a returns first, and what comes of the one fate that can succeed.
-record Tried (h : History) (o a : ℕ) : Type 0 where
-  lawful : Lawful h
-  lone : Lone h
+record Candidate (h : History) (o a : ℕ) : Type 0 where
   pending : Is h noKind o
   free : Free h a
   soonest : (b : ℕ) → b < h .count → Free h b → Returned h b → h .ret a ≤ h .ret b
 
 abbrev Computed : History → Settling → Type 0
-Computed h (leaves-out listed) = JudgedLinearization Queue h listed
-Computed h (takes o a listed) = Tried h o a × (SomeViolation Queue h × JudgedLinearization Queue (taking h o a) listed)
-Computed h (fails o a number listed) = Tried h o a × (FirstViolation Queue h number listed × SomeViolation Queue (taking h o a))
+Computed h (leaves-out (linearization listed)) = JudgedLinearization Queue h listed
+Computed h (leaves-out (violation number listed)) =
+    (Lawful h × Lone h) × (FirstViolation Queue h number listed × ((o : ℕ) × ((a : ℕ) × (Candidate h o a × SomeViolation Queue (taking h o a)))))
+Computed h (lets-take o a listed) = (Lawful h × Lone h) × (Candidate h o a × (SomeViolation Queue h × JudgedLinearization Queue (taking h o a) listed))
 
-tried? : (h : History) (o a : ℕ) → Dec (Tried h o a)
-unfolding equivalent? Dec·and all-below? implies? decLt decLe lawful? lone? is? free?
-tried? h o a =
-    equivalent? {P = _ × (_ × (_ × (_ × _)))} (λ p. record { lawful = p .0; lone = p .1 .0; pending = p .1 .1 .0; free = p .1 .1 .1 .0; soonest = p .1 .1 .1 .1 })
-    (λ t. (t .lawful, (t .lone, (t .pending, (t .free, t .soonest)))))
-    (Dec·and (lawful? h) (Dec·and (lone? h) (Dec·and (is? h noKind o) (Dec·and (free? h a)
-    (all-below? (λ b. implies? (free? h b) (implies? (decLt _ _) (decLe _ _))) (h .count))))))
+candidate? : (h : History) (o a : ℕ) → Dec (Candidate h o a)
+unfolding equivalent? Dec·and all-below? implies? decLt decLe is? free?
+candidate? h o a =
+    equivalent? {P = _ × (_ × _)} (λ p. record { pending = p .0; free = p .1 .0; soonest = p .1 .1 }) (λ t. (t .pending, (t .free, t .soonest)))
+    (Dec·and (is? h noKind o) (Dec·and (free? h a) (all-below? (λ b. implies? (free? h b) (implies? (decLt _ _) (decLe _ _))) (h .count))))
 
 computed? : (h : History) (says : Settling) → Dec (Computed h says)
-unfolding Dec·and tried? violated? judged-linearization? first-violation?
-computed? h (leaves-out listed) = judged-linearization? Queue h listed
-computed? h (takes o a listed) = Dec·and (tried? h o a) (Dec·and (violated? Queue h) (judged-linearization? Queue (taking h o a) listed))
-computed? h (fails o a number listed) = Dec·and (tried? h o a) (Dec·and (first-violation? Queue h number listed) (violated? Queue (taking h o a)))
+unfolding Dec·and some? lawful? lone? candidate? violated? judged-linearization? first-violation?
+computed? h (leaves-out (linearization listed)) = judged-linearization? Queue h listed
+computed? h (leaves-out (violation number listed)) =
+    Dec·and (Dec·and (lawful? h) (lone? h)) (Dec·and (first-violation? Queue h number listed)
+    (some? Fails (λ o. some? (Fails-with o) (λ a. Dec·and (candidate? h o a) (violated? Queue (taking h o a))) (h .count) (λ a f. f .0 .free .adds .known)) (h .count)
+    (λ o f. f .1 .0 .pending .known)))
+  where
+    Fails-with : ℕ → ℕ → Type 0
+    Fails-with o a = Candidate h o a × SomeViolation Queue (taking h o a)
+
+    Fails : ℕ → Type 0
+    Fails o = (a : ℕ) × Fails-with o a
+computed? h (lets-take o a listed) =
+    Dec·and (Dec·and (lawful? h) (lone? h)) (Dec·and (candidate? h o a) (Dec·and (violated? Queue h) (judged-linearization? Queue (taking h o a) listed)))
 
 -- that is enough
 computed-settles : (h : History) (says : Settling) → Computed h says → Settles h says
-computed-settles h (leaves-out listed) judged = Verdict.linearization left-out judged
-computed-settles h (takes o a listed) (t, ((n, pattern, first), judged)) =
-    (it-settles (t .lawful) (t .lone) (t .pending) first (t .free) (λ b free. t .soonest b (free .adds .known) free), judged)
-computed-settles h (fails o a number listed) (t, (first, (n, pattern, there))) =
-    it-fails (t .lawful) (t .lone) (t .pending) first (t .free) (λ b free. t .soonest b (free .adds .known) free)
-    (λ (order, legal). excluded (comes-back-lawful (t .lawful) (taking-back (t .lone) (t .pending) a)) legal (there .occurs))
+computed-settles h (leaves-out (linearization listed)) judged = Verdict.linearization left-out judged
+computed-settles h (leaves-out (violation number listed)) ((lawful, lone), (first, (o, (a, (c, (n, pattern, there)))))) =
+    it-fails lawful lone (c .pending) first (c .free) (λ b free. c .soonest b (free .adds .known) free)
+    (λ success. complete-exactly (comes-back-lawful lawful (taking-back lone (c .pending) a)) .0 success n pattern (there .occurs))
+computed-settles h (lets-take o a listed) ((lawful, lone), (c, ((n, pattern, first), judged))) =
+    (it-settles lawful lone (c .pending) first (c .free) (λ b free. c .soonest b (free .adds .known) free), judged)
 
-pub open-runs-fit : Each (Fits Settles) openRuns
+pub open-runs-correct : Each (Correct Settles) openRuns
 unfolding decide each? computed? history
-open-runs-fit =
-    each-map {P = Fits Computed} {Q = Fits Settles} (λ row fits. record { right = computed-settles _ (row .says) (fits .right) }) openRuns
-    (rows-fit computed? openRuns refl)
+open-runs-correct =
+    each-map {P = Correct Computed} {Q = Correct Settles} (λ row c. record { right = computed-settles _ (row .says) (c .right) }) openRuns
+    (rows-correct computed? openRuns refl)

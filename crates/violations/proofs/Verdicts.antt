@@ -12,16 +12,15 @@ use Rattle.history.specs.Linearization.{Linearization}
 use Rattle.history.specs.Sheet.{orderVerdict}
 use Rattle.history.proofs.Deciding.{equivalent?}
 use Rattle.violations.specs.Violations.{Is, NoViolation}
-use Rattle.violations.specs.Verdict.{JudgedLinearization, FirstViolation, CompleteVerdict, Verdict}
+use Rattle.violations.specs.Verdict.{JudgedLinearization, LowestLinearization, FirstViolation, CompleteVerdict, Verdict}
 use Rattle.violations.specs.Parts.{Alike}
-use Rattle.violations.specs.Fates.{taking, Free, Fate, takes-value, Succeeds, NoneSucceeds, Settled, left-out, took}
+use Rattle.violations.specs.Fates.{taking, Free, Fate, takes-value, Succeeds, NoneSucceeds, Settled, left-out, took, Unfated}
 use Rattle.violations.proofs.Operations.{is?, removed?}
 use Rattle.violations.proofs.Judged.{judged-complete}
 use Rattle.violations.proofs.Occurrences.{occurs-some}
 use Rattle.violations.proofs.FirstViolations.{SomeViolation, first-violation, first-violation-one}
-use Rattle.violations.proofs.Excluding.{excluded}
 use Rattle.violations.proofs.CellExcluding.{cell-excluded}
-use Rattle.violations.proofs.CompleteVerdicts.{judged-excluded, judged-exactly, complete-verdict, complete-zero}
+use Rattle.violations.proofs.CompleteVerdicts.{judged-excluded, judged-exactly, complete-exactly, lowest-exists, lowest-one, complete-verdict, complete-zero}
 use Rattle.violations.proofs.Alike.{alike-sym, alike-complete-verdict}
 use Rattle.violations.proofs.Fates.{taking-back, comes-back-lawful}
 use Rattle.violations.proofs.OpenRemoves.{back-linearization, linearization-exactly}
@@ -40,14 +39,14 @@ free? h a =
     (Dec·and (is? h add a) (Dec·not (removed? h a)))
 
 succeeds-judged : {h : History} → Lawful h → Succeeds h → (order : List ℕ) × JudgedLinearization Queue h order
-succeeds-judged lawful (order, legal) = judged-exactly Queue lawful .1 (λ n listed. excluded lawful legal)
+succeeds-judged lawful success = judged-exactly Queue lawful .1 (complete-exactly lawful .0 success)
 
 succeeds? : {h : History} → Lawful h → Dec (Succeeds h)
 succeeds? {h} lawful = go (first-violation Queue h)
   where
     go : SomeViolation Queue h ⊎ NoViolation Queue h → Dec (Succeeds h)
-    go (inl (n, listed, first)) = no (λ (order, legal). excluded lawful legal (first .occurs))
-    go (inr clean) = let (order, judged) = judged-exactly Queue lawful .1 clean in yes (order, judged-complete judged)
+    go (inl (n, listed, first)) = no (λ success. complete-exactly lawful .0 success n listed (first .occurs))
+    go (inr clean) = yes (complete-exactly lawful .1 clean)
 
 -- Some verdict.
 abbrev pub SomeVerdict : Object → History → Type 0
@@ -66,7 +65,7 @@ tried {h} lawful lone {n} {listed} first = by-pending (lowest (Is h noKind) (is?
     by-fate : {o : ℕ} → Is h noKind o → Lowest (Works o) (h .count) ⊎ None (Works o) (h .count) → SomeVerdict Queue h
     by-fate is (inl s) =
         let (order, judged) = succeeds-judged (comes-back-lawful lawful (taking-back lone is (s .at))) (s .holds .1) in
-        let fails : Succeeds h → ⊥ = λ (order, legal). excluded lawful legal (first .occurs) in
+        let fails : Succeeds h → ⊥ = λ success. complete-exactly lawful .0 success n listed (first .occurs) in
         (orderVerdict, order, Verdict.linearization (took is (s .holds .0) fails (λ b less free success. s .none-lower b less (free, success))) judged)
     by-fate {o} is (inr none) =
         let same : (p : ℕ) → Is h noKind p → p ≡ o = λ p is'. lone .one p o (is' .known) (is .known) (is' .kinds) (is .kinds) in
@@ -101,7 +100,7 @@ verdict-one lawful (Verdict.linearization s x) (Verdict.violation y none) = absu
 verdict-one lawful (Verdict.violation x none) (Verdict.linearization t y) = absurd (settled-excludes lawful t y x none)
 verdict-one lawful (Verdict.violation x none) (Verdict.violation y none') = let (number, list) = first-violation-one x y in (number, λ n. list)
 
--- With an order they are about one history, the one with the first success.
+-- Two verdicts with an order have settled for one history, the one with the first success.
 pub settled-one : {object : Object} {h : History} → LoneIn object h → {j k : History} {xs ys : List ℕ} → Settled object h j
     → JudgedLinearization object j xs → Settled object h k → JudgedLinearization object k ys → j ≡ k
 settled-one lone left-out x left-out y = refl
@@ -115,6 +114,23 @@ settled-one {h = h} lone {xs = xs} {ys = ys} (took {o = o} {a = a} is free fails
     let not-higher : b < a → ⊥ = λ l. lower b l free' (rw (← same) at success') in
     let adds : a ≡ b = omega arith in
     rw (same, adds) refl
+
+-- "Where an open remove is tried, its fate is decided first": the history that is settled is lawful, and where it has an order it
+-- has a lowest one. So the lowest order is determined.
+pub settled-lawful : {object : Object} {h k : History} → Lawful h → LoneIn object h → Settled object h k → Lawful k
+settled-lawful lawful lone left-out = lawful
+settled-lawful lawful lone (took {a = a} is free fails lower) = comes-back-lawful lawful (taking-back lone is a)
+
+pub settled-lowest : (object : Object) {h k : History} → Lawful h → LoneIn object h → Settled object h k → {order : List ℕ} → JudgedLinearization object k order
+    → (lowest : List ℕ) × LowestLinearization object k lowest
+settled-lowest object lawful lone settled {order} judged =
+    let there = settled-lawful lawful lone settled in
+    lowest-exists object there (judged-exactly object there .0 (order, judged))
+
+pub settled-lowest-one : {object : Object} {h : History} → LoneIn object h → {j k : History} {xs ys : List ℕ} → Settled object h j
+    → LowestLinearization object j xs
+    → Settled object h k → LowestLinearization object k ys → xs ≡ ys
+settled-lowest-one lone settled lowest settled' lowest' = lowest-one lowest (rw (← (settled-one lone settled (lowest .judged) settled' (lowest' .judged))) at lowest')
 
 -- The order of a verdict is legal,
 pub verdict-legal : (object : Object) {h : History} → Lawful h → LoneIn object h → {byte : ℕ} {listed : List ℕ} → Verdict object h byte listed
@@ -135,7 +151,7 @@ verdict-exactly object {h} lawful lone {byte} {listed} v = (λ e. (listed, verdi
     excludes Queue lone {order = order} first none legal = by (linearization-exactly lawful lone .0 (order, legal))
       where
         by : Succeeds h ⊎ ((fate : History) × Fate Queue h fate × Succeeds fate) → ⊥
-        by (inl (order, legal)) = excluded lawful legal (first .occurs)
+        by (inl success) = complete-exactly lawful .0 success _ _ (first .occurs)
         by (inr (fate, f, success)) = none fate f success
 
     go : {byte : ℕ} {listed order : List ℕ} → Verdict object h byte listed → Linearization object h order → byte ≡ orderVerdict
@@ -182,12 +198,7 @@ alike-verdict object lawful lawful' lone lone' a (Verdict.violation x none) (Ver
 pub returned-lone : {h : History} → RemovesReturned h → Lone h
 returned-lone returned = record { one = λ o p l m e f. absurd (omega (arith, returned o l)); spare = λ o p l m e. absurd (omega (arith, returned o l)) }
 
--- Nothing has a fate: what is benched is a cell, or a queue of which no remove is pending. Then a verdict is one on the history as
--- it stands.
-abbrev pub Unfated : Object → History → Type 0
-Unfated Queue h = RemovesReturned h
-Unfated Cell h = Unit {0}
-
+-- Where nothing has a fate, a verdict is one on the history as it stands.
 pub complete-is-verdict : (object : Object) {h : History} → Unfated object h → {byte : ℕ} {listed : List ℕ} → CompleteVerdict object h byte listed
     → Verdict object h byte listed
 complete-is-verdict object unfated (CompleteVerdict.linearization x) = Verdict.linearization left-out x

@@ -6,26 +6,21 @@ use Prim.Native.Nat.{ℕ, _-_, _<_}
 use mathlib.Core.List.{List}
 use lib.Dec.{eqb}
 use Rattle.record.specs.Choice.{if_then_else_}
-use Rattle.history.specs.Object.{Object, Queue}
-use Rattle.history.specs.History.{History, add, remove, noKind}
+use Rattle.history.specs.Object.{Object, Queue, Cell}
+use Rattle.history.specs.History.{History, add, remove, noKind, RemovesReturned}
 use Rattle.history.specs.Linearization.{CompleteLinearization}
 use Rattle.violations.specs.Violations.{Is, Removed}
 
--- the history in which operation o comes back last, at the spare position after every call, as an operation of this kind on
--- this value
-abbrev pub comingBack : History → ℕ → ℕ → ℕ → History
-comingBack h o kind value = record {
+-- the history in which remove o comes back with the value of add a. It returns at the last position, after every call.
+abbrev pub taking : History → ℕ → ℕ → History
+taking h o a = record {
   count = h .count;
-  kind = λ p. if eqb p o then kind else h .kind p;
-  value = λ p. if eqb p o then value else h .value p;
+  kind = λ p. if eqb p o then remove else h .kind p;
+  value = λ p. if eqb p o then h .value a else h .value p;
   call = h .call;
   ret = λ p. if eqb p o then h .end - 1 else h .ret p;
   end = h .end;
 }
-
--- it comes back with the value of add a
-abbrev pub taking : History → ℕ → ℕ → History
-taking h o a = comingBack h o remove (h .value a)
 
 -- a value that it may have taken: one "added and not otherwise removed"
 pub record Free (h : History) (a : ℕ) : Type 0 where
@@ -36,7 +31,7 @@ pub record Free (h : History) (a : ℕ) : Type 0 where
 pub data Fate : Object → History → History → Type 0 where
   takes-value : {h : History} {o a : ℕ} → Is h noKind o → Free h a → Fate Queue h (taking h o a)
 
--- a try succeeds: there is a legal order
+-- A try succeeds: there is a legal order. (Only queues have tries.)
 abbrev pub Succeeds : History → Type 0
 Succeeds h = (order : List ℕ) × CompleteLinearization h order
 
@@ -49,3 +44,8 @@ pub data Settled : Object → History → History → Type 0 where
   left-out : {object : Object} {h : History} → Settled object h h
   took : {h : History} {o a : ℕ} → Is h noKind o → Free h a → (Succeeds h → ⊥) → ((b : ℕ) → b < a → Free h b → Succeeds (taking h o b) → ⊥)
       → Settled Queue h (taking h o a)
+
+-- Nothing has a fate: what is benched is a cell, or a queue of which no remove is pending.
+abbrev pub Unfated : Object → History → Type 0
+Unfated Queue h = RemovesReturned h
+Unfated Cell h = Unit {0}

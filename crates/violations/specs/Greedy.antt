@@ -39,7 +39,7 @@ pub data Continues {S : Type 0} (h : History) (Serves : List ℕ → ℕ → S �
   places : {order more : List ℕ} {s s' : S} {o : ℕ} → Placeable h Serves order s o s' → ((p : ℕ) (other : S) → p < o → Placeable h Serves order s p other → ⊥)
       → Continues h Serves (order ++ (o ∷ [])) s' more → Continues h Serves order s (o ∷ more)
 
--- What is placed so far is the beginning of an order as the judge lists it.
+-- What is placed so far is the beginning of an order as the judge lists it. (This is for the theory of the search alone.)
 pub record Begun (h : History) (order : List ℕ) : Type 0 where
   -- what is placed is to be listed, each operation once
   pub due : (i : ℕ) → i < length order → Due h (placed order i)

@@ -145,41 +145,45 @@ cellRuns =
     record { run = (0, CallRemove) ∷ (1, CallAdd 0) ∷ (1, ReturnAdd) ∷ (2, CallRemove) ∷ (2, ReturnRemove (Value 0)) ∷ []; says = linearization (1 ∷ 2 ∷ []) } ∷
     []
 
--- What a row says of a run of a queue with a remove that does not return: what becomes of it, and the operations listed. It is
--- left out; or, where that fails, remove o takes the value of add a; or the pattern stays, since that fate fails too.
+-- What a row says of a run of a queue with a remove that does not return: the verdict with it left out; or, where another fate is
+-- the first success, that remove o takes the value of add a, and the order then.
 pub data Settling : Type 0 where
-  leaves-out : List ℕ → Settling
-  takes : ℕ → ℕ → List ℕ → Settling
-  fails : ℕ → ℕ → ℕ → List ℕ → Settling
+  leaves-out : Expected → Settling
+  lets-take : ℕ → ℕ → List ℕ → Settling
 
--- It is right: this is the verdict, with this fate.
+-- What it says is right: the verdict is this one, with this fate.
 abbrev pub Settles : History → Settling → Type 0
-Settles h (leaves-out listed) = Verdict Queue h orderVerdict listed
-Settles h (takes o a listed) = Settled Queue h (taking h o a) × JudgedLinearization Queue (taking h o a) listed
-Settles h (fails o a number listed) = Verdict Queue h number listed
+Settles h (leaves-out (linearization listed)) = Verdict Queue h orderVerdict listed
+Settles h (leaves-out (violation number listed)) = Verdict Queue h number listed
+Settles h (lets-take o a listed) = Settled Queue h (taking h o a) × JudgedLinearization Queue (taking h o a) listed
 
 -- All of them end with a return, so that no call stands at the last position, and the remove may come back there.
 abbrev pub openRuns : List (Row Settling)
 openRuns =
     -- Ra( A0( A0): the value 0 was not removed, though the entry of the remove that does not return is 0 too; order 1
-    record { run = (0, CallRemove) ∷ (1, CallAdd 0) ∷ (1, ReturnAdd) ∷ []; says = leaves-out (1 ∷ []) } ∷
+    record { run = (0, CallRemove) ∷ (1, CallAdd 0) ∷ (1, ReturnAdd) ∷ []; says = leaves-out (linearization (1 ∷ [])) } ∷
+    -- Ra( A0( A1( A1): nor is the open add of 0 listed; order 2
+    record { run = (0, CallRemove) ∷ (1, CallAdd 0) ∷ (2, CallAdd 1) ∷ (2, ReturnAdd) ∷ []; says = leaves-out (linearization (2 ∷ [])) } ∷
     -- A0( Ra( R( R0): order 0 2
-    record { run = (0, CallAdd 0) ∷ (1, CallRemove) ∷ (2, CallRemove) ∷ (2, ReturnRemove (Value 0)) ∷ []; says = leaves-out (0 ∷ 2 ∷ []) } ∷
+    record { run = (0, CallAdd 0) ∷ (1, CallRemove) ∷ (2, CallRemove) ∷ (2, ReturnRemove (Value 0)) ∷ []; says = leaves-out (linearization (0 ∷ 2 ∷ [])) } ∷
     -- A1( A1) A2( A2) Ra( R( R2): left out it is pattern 4; Ra takes 1, order 0 1 2 3
     record {
       run = (0, CallAdd 1) ∷ (0, ReturnAdd) ∷ (1, CallAdd 2) ∷ (1, ReturnAdd) ∷ (2, CallRemove) ∷ (3, CallRemove) ∷ (3, ReturnRemove (Value 2)) ∷ [];
-      says = takes 2 0 (0 ∷ 1 ∷ 2 ∷ 3 ∷ []);
+      says = lets-take 2 0 (0 ∷ 1 ∷ 2 ∷ 3 ∷ []);
     } ∷
-    -- A1( A1) Ra( R( R-): left out it is pattern 6; Ra takes 1, order 0 1 2
-    record { run = (0, CallAdd 1) ∷ (0, ReturnAdd) ∷ (1, CallRemove) ∷ (2, CallRemove) ∷ (2, ReturnRemove Empty) ∷ []; says = takes 1 0 (0 ∷ 1 ∷ 2 ∷ []) } ∷
-    -- A1( A1) Ra( Rb( Rb1) A2( A2) R( R-): 1 is removed, so Ra takes 2, which was added later; order 0 2 3 1 4
+    -- A1( A2( A2) A3( A3) Ra( R( R3) A1): Ra takes 2 and not 1, whose add is lower but returns later; order 1 2 3 4 0
+    record {
+      run = (0, CallAdd 1) ∷ (1, CallAdd 2) ∷ (1, ReturnAdd) ∷ (2, CallAdd 3) ∷ (2, ReturnAdd) ∷ (3, CallRemove) ∷ (4, CallRemove) ∷ (4, ReturnRemove (Value 3)) ∷ (0, ReturnAdd) ∷ [];
+      says = lets-take 3 1 (1 ∷ 2 ∷ 3 ∷ 4 ∷ 0 ∷ []);
+    } ∷
+    -- A1( A1) Ra( Rb( Rb1) A2( A2) R( R-): left out it is pattern 6; 1 is removed, so Ra takes 2; order 0 2 3 1 4
     record {
       run = (0, CallAdd 1) ∷ (0, ReturnAdd) ∷ (1, CallRemove) ∷ (2, CallRemove) ∷ (2, ReturnRemove (Value 1)) ∷ (3, CallAdd 2) ∷ (3, ReturnAdd) ∷ (4, CallRemove) ∷ (4, ReturnRemove Empty) ∷ [];
-      says = takes 1 3 (0 ∷ 2 ∷ 3 ∷ 1 ∷ 4 ∷ []);
+      says = lets-take 1 3 (0 ∷ 2 ∷ 3 ∷ 1 ∷ 4 ∷ []);
     } ∷
-    -- A1( A1) A2( A2) Ra( R( R-): if Ra takes 1, R still meets 2; pattern 6, 3 0
+    -- A1( A1) A2( A2) Ra( R( R-): if Ra takes 1 or 2, R still meets the other; pattern 6, 3 0
     record {
       run = (0, CallAdd 1) ∷ (0, ReturnAdd) ∷ (1, CallAdd 2) ∷ (1, ReturnAdd) ∷ (2, CallRemove) ∷ (3, CallRemove) ∷ (3, ReturnRemove Empty) ∷ [];
-      says = fails 2 0 6 (3 ∷ 0 ∷ []);
+      says = leaves-out (violation 6 (3 ∷ 0 ∷ []));
     } ∷
     []
