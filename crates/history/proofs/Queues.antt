@@ -34,7 +34,7 @@ makes-kind (puts a) = omega arith
 makes-kind (takes r v) = omega arith
 makes-kind (meets e) = omega arith
 
--- so does an operation that may not have returned
+-- an operation makes only one thing of a queue, also where it has not returned
 pub moves-one : {h : History} {o : ℕ} {queue left right : List ℕ} → Moves h o queue left → Moves h o queue right → left ≡ right
 moves-one (makes a) (makes b) = makes-one a b
 moves-one (makes a) (takes-front e) = absurd (omega (arith, makes-kind a))

@@ -32,7 +32,7 @@ pub record History : Type 0 where
   -- how many operations there are
   pub count : ℕ
   pub kind : ℕ → ℕ
-  -- the value that is added or removed; of an empty remove, and of what has no kind, it means nothing
+  -- the value that is added or removed, written or read; of an empty remove, and of what has no kind, it means nothing
   pub value : ℕ → ℕ
   -- the positions of the call and of the return; what is pending (document 01: open) returns at the end
   pub call : ℕ → ℕ
@@ -73,7 +73,7 @@ pub record Lone (h : History) : Type 0 where
   pub one : (o p : ℕ) → o < h .count → p < h .count → h .kind o ≡ noKind → h .kind p ≡ noKind → o ≡ p
   pub spare : (o p : ℕ) → o < h .count → p < h .count → h .kind o ≡ noKind → h .call p + 1 < h .end
 
--- The same for either object: any number of reads of a cell may not have returned.
+-- What is asked of the history of either object: of a cell nothing, since any number of its reads may be open.
 abbrev pub LoneIn : Object → History → Type 0
 LoneIn Queue h = Lone h
 LoneIn Cell h = Unit {0}

@@ -1,5 +1,5 @@
--- Document 01, "Legal orders" (Herlihy and Wing's linearizations), part by part, with document 02: a remove of a queue may
--- not have returned (change 4), and a cell is run in its own way (change 5, Register.antt).
+-- Document 01, "Legal orders" (Herlihy and Wing's linearizations), part by part, with document 02: one remove of a queue may be
+-- open (change 4), and a cell is run in its own way (change 5, Register.antt).
 use Prim.Native.Nat.{ℕ, _≤_, _<_}
 use mathlib.Core.Path.{_≡_}
 use mathlib.Core.List.{List, [], _∷_, _++_}

@@ -10,7 +10,7 @@ pub data Content : Type 0 where
   initial : Content
   holds : ℕ → Content
 
--- What operation o makes of a cell. A read that has not returned makes nothing of it, so it is in no legal order.
+-- What operation o makes of a cell. There is no case for a read that has not returned, so it is in no legal order.
 pub data Stores (h : History) (o : ℕ) : Content → Content → Type 0 where
   writes : {c : Content} → h .kind o ≡ write → Stores h o c (holds (h .value o))
   reads : {v : ℕ} → h .kind o ≡ read → h .value o ≡ v → Stores h o (holds v) (holds v)

@@ -29,7 +29,7 @@ pub record Collecting (table listed values : List ℕ) (count i : ℕ) : Type 0 
   -- they are the values of those operations
   pub holds : take count values ≡ valuesOf (entriesOf table) (take i listed)
 
--- an operation of which nothing is known has no value, nor has an empty remove, and any other operation has its own
+-- what has no kind has no value, nor has an empty remove, and any other operation has its own
 module _ {table values : List ℕ} {o count : ℕ} where
   pub value-none : length values ≡ maxRecords → (kindAt table o ≡ noKind) ⊎ (kindAt table o ≡ emptyRemove) → ValueAdded table o count values count values
   unfolding valuesOf

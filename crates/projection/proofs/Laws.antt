@@ -123,8 +123,8 @@ projection-short log records reads bytes empties values = orderly-log (projectio
 pub narrowed-readable : (log : List ℕ) (records : List Record) → readLog log ≡ readable records → Bytes log → (values : List ℕ) → readLog (encodeLog (narrowed records values)) ≡ readable (narrowed records values)
 narrowed-readable log records reads bytes values = orderly-readable (narrowed records values) (projection-orderly [] values (readable-orderly (readable-log log records reads) bytes))
 
--- "repeats in the list change nothing", nor do values that the log lacks: lists that hold the same of its values narrow a log to the same records. An
--- operation of which nothing is known has no value, nor has an empty remove.
+-- "repeats in the list change nothing", nor do values that the log lacks: lists that hold the same of its values narrow a log to the same records. What
+-- has no kind has no value, nor has an empty remove.
 pub narrowed-alike : (log : List ℕ) (records : List Record) → readLog log ≡ readable records → (values others : List ℕ)
     → ((o : ℕ) → HasValue (historyOf records) o → isIn (historyOf records .value o) values ≡ isIn (historyOf records .value o) others) → narrowed records values ≡ narrowed records others
 narrowed-alike log records reads values others same =

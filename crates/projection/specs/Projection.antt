@@ -29,7 +29,7 @@ unfoldable pub keepRecords : (ℕ → Bool) → List Record → List Record → 
 keepRecords keep past [] = []
 keepRecords keep past (r ∷ records) = if keep (operationOf past r) then r ∷ keepRecords keep (r ∷ past) records else keepRecords keep (r ∷ past) records
 
--- the values of the operations that a list names; an operation of which nothing is known has no value, nor has an empty remove
+-- the values of the operations that a list names; what has no kind has no value, nor has an empty remove
 unfoldable pub valuesOf : History → List ℕ → List ℕ
 valuesOf h [] = []
 valuesOf h (o ∷ listed) =
@@ -37,7 +37,7 @@ valuesOf h (o ∷ listed) =
     if eqb (h .kind o) emptyRemove then valuesOf h listed else
     h .value o ∷ valuesOf h listed
 
--- whether an operation is kept with these empty removes and these values: one of which nothing is known never is, an empty remove is by its number,
+-- whether an operation is kept with these empty removes and these values: what has no kind never is, an empty remove is by its number,
 -- any other operation by its value
 abbrev pub keeps : History → List ℕ → List ℕ → ℕ → Bool
 keeps h empties values o =

@@ -30,7 +30,7 @@ use table::table::push;
 // The number of the refusal of an excerpt where the verdict is an order.
 const NO_PATTERN: u32 = 23;
 
-// Puts the value of an operation behind those of a table; an operation of which nothing is known has no value, nor has an empty remove. Answers
+// Puts the value of an operation behind those of a table; what has no kind has no value, nor has an empty remove. Answers
 // how many values there are then.
 fn add_value(table: &Operations, o: usize, count: usize, values: &mut Table) -> usize
     requires { ⌜ (o < maxRecords) × (count < maxRecords) × (length (now values) ≡ maxRecords) ⌝ }

@@ -19,7 +19,7 @@ pub const MARKED: u8 = 1;
 // For each operation, or for each record, MARKED if it is kept, or 0.
 pub type Marks = [u8; MAX_RECORDS];
 
-// Whether an operation is kept: one of which nothing is known never is, an empty remove is by its number, any other operation by its value.
+// Whether an operation is kept: what has no kind never is, an empty remove is by its number, any other operation by its value.
 fn keeps(table: &Operations, o: usize, empties: &[u32], values: &[u32]) -> bool
     requires { ⌜ o < maxRecords ⌝ }
     ensures { λ r. ⌜ r ≡ keepsIn (now (table .entry)) (now (empties .entry)) (now (values .entry)) o ⌝ }

@@ -12,7 +12,7 @@ use Rattle.matching.specs.Reaches.{reachAt, Reaching}
 use Rattle.search.proofs.Fitting.{Kinds, is-add, is-remove, is-empty, is-none, kinds}
 
 module _ {h : History} {reach : List ℕ} (held : Held h) (reaching : Reaching h reach) (o : ℕ) (known : o < h .count) (pending : h .end ≤ h .ret o) where
-  -- what has not returned is an add, or nothing is known of it
+  -- what has not returned is an add, or has no kind
   pending-adds : Kinds h o → Is h add o ⊎ Is h noKind o
   pending-adds (is-add is) = inl is
   pending-adds (is-remove is) = absurd (omega (arith, held .lawful .returned o known (omega (arith, is .kinds))))

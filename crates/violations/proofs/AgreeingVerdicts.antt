@@ -48,7 +48,7 @@ pub agree-complete-verdict : (object : Object) {h k : History} → Agree h k →
 agree-complete-verdict object a (CompleteVerdict.linearization x) = CompleteVerdict.linearization (agree-judged a x)
 agree-complete-verdict object a (CompleteVerdict.violation x) = CompleteVerdict.violation (agree-first-violation object a x)
 
--- where the remove that has not returned takes the same value in both, they still agree
+-- histories that agree still do when their open remove takes the same value
 agree-taking : {h k : History} → Agree h k → (o : ℕ) {b : ℕ} → b < h .count → Agree (taking h o b) (taking k o b)
 agree-taking {h} {k} a o {b} l = record {
   count = a .count;

@@ -54,7 +54,7 @@ module _ {h k : History} (a : Alike h k) (lone-h : Lone h) (lone-k : Lone k) {o 
   )
   precedes p q l m (no n) = rw (d .ret (a .to p) (other l n), c .ret p n) (a .precedes p q l m)
 
-  -- an operation has the value of one that has it in the histories as they stand
+  -- the value of p, here and there, is that of operation `by` in the histories as they stand
   record Valued (p : ℕ) : Type 0 where
     by : ℕ
     valued : HasValue h by

@@ -26,7 +26,7 @@ list-known h few listed known i = go (decLt i (length listed))
     go (yes l) = omega (arith, known i l)
     go (no l) = omega (arith, List·getD-eq-default listed 0 {n = i} (omega arith))
 
--- an order of a settled history lists operations of the history
+-- a settled history has as many operations as the history
 settled-count : {object : Object} {h k : History} → Settled object h k → k .count ≡ h .count
 settled-count left-out = refl
 settled-count (took is free fails lower) = refl

@@ -23,7 +23,7 @@ none-succeeds none fate (takes-value {o = o} {a = a} is free) success = none o a
 module _ {h : History} (lawful : Lawful h) (lone : Lone h) {o : ℕ} (pending : Is h noKind o) where
   -- A fate that succeeds where a pattern occurs mends it, by the value of its add.
   pub fate-mends : {n : ℕ} {listed : List ℕ} → Occurs Queue h n listed → {a : ℕ} → Free h a → Succeeds (taking h o a)
-      → Mends lawful (taking-back lone pending a) n a
+      → Mends (taking-back lone pending a) n a
   fate-mends occurs {a} free success =
       let c = taking-back lone pending a in
       let (x, m) = mends lawful c (complete-exactly (comes-back-lawful lawful c) .0 success) occurs in
@@ -50,7 +50,7 @@ module _ {h : History} (lawful : Lawful h) (lone : Lone h) {o : ℕ} (pending : 
     pending-same : {p : ℕ} (a : ℕ) → Is h noKind p → Succeeds (taking h p a) → Succeeds (taking h o a)
     pending-same {p} a is success = rw (lone .one p o (is .known) (pending .known) (is .kinds) (pending .kinds)) at success
 
-    unless-mended : ((a : ℕ) → Free h a → Succeeds (taking h o a) → Mends lawful (taking-back lone pending a) n a → ⊥) → Verdict Queue h n listed
+    unless-mended : ((a : ℕ) → Free h a → Succeeds (taking h o a) → Mends (taking-back lone pending a) n a → ⊥) → Verdict Queue h n listed
     unless-mended none =
         Verdict.violation first
         (none-succeeds (λ p a is free success. let s = pending-same a is success in none a free s (fate-mends (first .occurs) free s)))

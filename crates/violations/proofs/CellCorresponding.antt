@@ -23,7 +23,7 @@ module _ {h k : History} {Same : ℕ → ℕ → Type 0} (m : Correspondence h k
       go (inl e) = inl (sym (m .kind s') ∙ e)
       go (inr e) = inr (sym (m .kind s') ∙ e)
 
-  -- the write of a value of h that an operation of k is on is one of k, and the other way round
+  -- if the value of an operation of h is written in h, that of its counterpart is written in k, and the other way round
   corresponding-written : {o q v : ℕ} → Same o q → On h v o → Written h v → Written k (k .value q)
   corresponding-written s on w =
       let (q', s') = m .stays s (on-valued on) (w .by) (on-valued (written-on w)) (w .is ∙ sym (on .is)) in

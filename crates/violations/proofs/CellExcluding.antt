@@ -17,8 +17,8 @@ use Rattle.violations.proofs.Orderings.{same-place, in-order, listed-be
 use Rattle.violations.proofs.CellRuns.{NoWrite, Source, written, held, source, initial-apart, initial-first}
 use Rattle.violations.proofs.CellOperations.{read-on}
 
--- The write of a value stands at a place up to j, and no other write between them: all operations on a value that are listed
--- stand behind its write, and before the next one.
+-- The write of value v stands at a place up to j, and no other write after it up to j. So the listed operations on a value stand
+-- from its write on and before the next write.
 pub record Begins (h : History) (order : List ℕ) (v j : ℕ) : Type 0 where
   pub at : ℕ
   pub up-to : at ≤ j
@@ -34,7 +34,7 @@ begins-here {j = j} b k = go (decLt (b .at) j)
     go (yes l) = absurd (b .alone .none j (omega arith) (omega arith) k)
     go (no l) = omega (arith, b .up-to)
 
--- of two values one is written first, and all its operations come before those of the other
+-- if the write of one value stands before that of another, so does each operation on it
 begins-apart : {h : History} {order : List ℕ} {a b i j : ℕ} → (x : Begins h order a i) (y : Begins h order b j) → x .at < y .at → i < j
 begins-apart {i = i} {j} x y less = go (decLt i (y .at))
   where

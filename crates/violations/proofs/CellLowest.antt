@@ -36,7 +36,7 @@ module _ {h : History} (lawful : Lawful h) {order : List ℕ} {c : Current} (s :
   legal = judged .legal
 
   abbrev o-at : Listed whole o
-  o-at = goes-on-at lawful order o rest judged
+  o-at = goes-on-at order o rest
 
   abbrev due-listed : {p : ℕ} → Left h order p → Listed whole p
   due-listed l = due-judged lawful judged (l .due)
@@ -47,28 +47,29 @@ module _ {h : History} (lawful : Lawful h) {order : List ℕ} {c : Current} (s :
     write-here = ap (h .kind) (o-at .here) ∙ is .kinds
 
     behind : {p : ℕ} → Left h order p → (h .kind p ≡ write → ⊥) → (l : Listed whole p) → length order < l .at
-    behind left n l = other-behind lawful order o rest judged left (λ e. n (sym (ap (h .kind) e) ∙ is .kinds)) l
+    behind left n l = other-behind order o rest left (λ e. n (sym (ap (h .kind) e) ∙ is .kinds)) l
 
-    -- an initial read that is left would stand behind the write
+    -- an initial read that is left would come after the write
     no-initial-left : {x : ℕ} → Left h order x → Is h initialRead x → ⊥
     no-initial-left l i =
         let m = due-listed l in
         let unwritten = initial-first (legal .runs) (m .at) (m .below) (ap (h .kind) (m .here) ∙ i .kinds) in
         unwritten .none (length order) (omega arith) (behind l (λ k. omega (arith, i .kinds)) m) write-here
 
-    -- no read of what the cell holds is left: it would stand behind this write, and so would not find it there
+    -- no read of what the cell holds is left: it would come after this write, and would read another value
     all-read : {d : Current} → c ≡ d → (x : ℕ) → Left h order x → Reads h x d → ⊥
     all-read e x l (of-initial i) = no-initial-left l i
     all-read e x l (of-written {w} i same) =
         let m = due-listed l in
         let (is-w, at-w) = s .current w e in
-        let m' = listed-there lawful order o rest judged at-w in
+        let m' = listed-there order o rest at-w in
         let b = begins lawful legal (read-on i same) m in
         let b' = begins lawful legal (write-on is-w) m' in
         b .alone .none (length order) (omega (arith, begins-one lawful legal (m .below) (m' .below) b b', b' .up-to, at-w .below))
         (omega (arith, behind l (λ k. omega (arith, i .kinds)) m)) write-here
 
-    -- the write is safe: what is enabled and on another value would stand between it and a read of its value that it precedes
+    -- the write is safe: an enabled operation on another value that precedes a read of the written value would stand between the
+    -- write and that read
     safe : Safe h order o
     safe = record {
       calls = λ x y on e n.
@@ -84,7 +85,7 @@ module _ {h : History} (lawful : Lawful h) {order : List ℕ} {c : Current} (s :
             at-y = due-listed (e .left)
 
             after : length order < at-y .at
-            after = other-behind lawful order o rest judged (e .left) (λ q. n (rw (← q) (write-on is))) at-y
+            after = other-behind order o rest (e .left) (λ q. n (rw (← q) (write-on is))) at-y
 
             on-y : On h (h .value y) y
             on-y = due-on lawful (e .left .due) (λ k. no-initial-left (e .left) (record { known = e .left .due .known; kinds = k }))
@@ -98,7 +99,7 @@ module _ {h : History} (lawful : Lawful h) {order : List ℕ} {c : Current} (s :
                 y-begins : Begins h whole (h .value y) (at-y .at)
                 y-begins = begins lawful legal on-y at-y
 
-                -- x is a read of the value that o writes
+                -- the write of x's value is o
                 start : x-begins .at ≡ length order
                 start =
                     let own = begins lawful legal (write-on is) o-at in

@@ -55,11 +55,11 @@ cell-starts {h} = record {
   block = λ sound w x y e. absurd (nothing-apart h e);
 }
 
-module _ {h : History} (lawful : Lawful h) {order : List ℕ} {c : Current} (s : Searched h order c) where
-  -- where no read of what the cell holds is left, no initial read is
-  pub no-initial : AllRead h order c → {y : ℕ} → Left h order y → h .kind y ≡ initialRead → ⊥
-  no-initial all {y} l k = let i : Is h initialRead y = record { known = l .due .known; kinds = k } in all y l (rw (s .initials y i l) (of-initial i))
+-- where no read of what the cell holds is left, no initial read is
+pub no-initial : {h : History} {order : List ℕ} {c : Current} → Searched h order c → AllRead h order c → {y : ℕ} → Left h order y → h .kind y ≡ initialRead → ⊥
+no-initial {h} s all {y} l k = let i : Is h initialRead y = record { known = l .due .known; kinds = k } in all y l (rw (s .initials y i l) (of-initial i))
 
+module _ {h : History} (lawful : Lawful h) {order : List ℕ} {c : Current} (s : Searched h order c) where
   -- A write that is safe against what is enabled is safe against all that is left, if no pattern occurs. Let p be the first of
   -- what is left to return, and y left and not enabled, so that p precedes y. If p is on the value of the write and y preceded
   -- an operation x on it, the two values would cross; if p is not, x is called before p returns, and so before y does.
@@ -68,7 +68,7 @@ module _ {h : History} (lawful : Lawful h) {order : List ℕ} {c : Current} (s :
   safe-for-all sound {o} all safe x y on l other = let (p, soonest) = earliest l in go p soonest (decLt (h .call y) (h .ret p))
     where
       on-y : On h (h .value y) y
-      on-y = due-on lawful (l .due) (no-initial all l)
+      on-y = due-on lawful (l .due) (no-initial s all l)
 
       behind : (p : ℕ) → Earliest h order p → Precedes h p y → Dec (On h (h .value o) p) → h .call x < h .ret y
       behind p soonest before (yes on-p) =
@@ -120,7 +120,7 @@ module _ {h : History} (lawful : Lawful h) {order : List ℕ} {c : Current} (s :
 
       initials : {c' : Current} → Serves h order o c c' → (i : ℕ) → Is h initialRead i → Left h (snoc order o) i → c' ≡ nothing
       initials (reads x) i is l = s .initials i is (left-before order o l)
-      initials (writes is' all safe) i is l = absurd (no-initial all (left-before order o l) (is .kinds))
+      initials (writes is' all safe) i is l = absurd (no-initial s all (left-before order o l) (is .kinds))
 
       block : {c' : Current} → Serves h order o c c' → Sound h → (w x y : ℕ) → c' ≡ wrote w → Left h (snoc order o) x → Is h read x → h .value x ≡ h .value w
           → Left h (snoc order o) y → (On h (h .value w) y → ⊥) → h .call x < h .ret y

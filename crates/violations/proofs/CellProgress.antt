@@ -71,7 +71,7 @@ module _ {h : History} (lawful : Lawful h) (sound : Sound h) {order : List ℕ} 
     writer {y} l = go (on .kinds)
       where
         on : On h (h .value y) y
-        on = due-on lawful (l .due) (no-initial lawful s all l)
+        on = due-on lawful (l .due) (no-initial s all l)
 
         go : (h .kind y ≡ write) ⊎ (h .kind y ≡ read) → Writer y
         go (inl k) = record { on = on; by = y; is = record { known = l .due .known; kinds = k }; same = refl; is-left = l }

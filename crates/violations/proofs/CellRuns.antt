@@ -27,7 +27,7 @@ no-write-first {h} {order} {o} {j} first n = record { none = go }
     go zero l m w = first w
     go (suc k) l m w = n .none k (omega arith) (omega arith) w
 
--- Where the value comes from that is read at a place: from a write before it, with none between, or it was there at the start.
+-- Where the value that is read at a place comes from: from a write before it, with none between, or it was there at the start.
 pub data Source (h : History) (order : List ℕ) (c : Content) (j : ℕ) : Type 0 where
   written : (i : ℕ) → i < j → h .kind (placed order i) ≡ write → h .value (placed order i) ≡ h .value (placed order j)
       → NoWrite h order (suc i) j → Source h order c j
@@ -52,7 +52,7 @@ source done j l k = absurd (omega arith)
 source (then s run) zero l k = source-first s k
 source (then s run) (suc j) l k = source-behind s (source run j (omega arith) k)
 
--- a cell holds the initial value or a written one
+-- 1 if nothing has been written to the cell, otherwise 0; so the two contents differ
 abbrev pub untouched : Content → ℕ
 untouched initial = 1
 untouched (holds v) = 0

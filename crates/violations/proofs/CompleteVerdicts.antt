@@ -48,7 +48,7 @@ judged-exactly object lawful = (
   λ clean. let (order, lowest) = lowest-exists object lawful clean in (order, lowest .judged),
 )
 
--- So does a legal order of a queue's history that leaves a pending remove out: there is an order with it left out exactly then.
+-- A legal order of a queue's history that leaves a pending remove out exists exactly if no pattern occurs.
 pub complete-exactly : {h : History} → Lawful h → Succeeds h ↔ NoViolation Queue h
 complete-exactly lawful = (
   λ (order, legal) n listed. excluded lawful legal,

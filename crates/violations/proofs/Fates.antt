@@ -1,5 +1,5 @@
--- A remove that has not returned comes back last: the history in which it does is lawful, its patterns are those of the history as
--- it stands but for the value that is taken, and where it mends a pattern, the value that is taken is known.
+-- A remove that has not returned comes back last: the history in which it does is lawful; patterns 1, 2, 3 and 5 of the history as it
+-- stands occur in it too; and where coming back mends pattern 4 or 6, the value that it takes is known.
 use Prim.Native.Nat.{ℕ, _-_, _≤_, _<_}
 use native.Mathlib.Omega.{arith}
 use native.Mathlib.Decide.{ℕ-discrete}
@@ -67,8 +67,8 @@ taking-takes {h} {o} {a} pending adds =
     let other : a ≡ o → ⊥ = λ e. omega (arith, ap (h .kind) e, adds .kinds, pending .kinds) in
     record { removes = record { known = pending .known; kinds = rw (eq-eqb o o refl) refl }; same = rw (eq-eqb o o refl, ne-eqb a o other) refl }
 
-module _ {h k : History} {o : ℕ} (lawful : Lawful h) (c : ComesBack h k o) where
-  -- an operation of a known kind is another one, and is of this kind in both
+module _ {h k : History} {o : ℕ} (c : ComesBack h k o) where
+  -- an operation that has a kind in h is not o, and has the same kind in k
   kinded-other : {kind p : ℕ} → Is h kind p → add ≤ kind → p ≡ o → ⊥
   kinded-other is l e = omega (arith, ap (h .kind) e, is .kinds, c .pending .kinds)
 
@@ -99,50 +99,7 @@ module _ {h k : History} {o : ℕ} (lawful : Lawful h) (c : ComesBack h k o) whe
   precedes-there : {p q : ℕ} → (p ≡ o → ⊥) → Precedes h p q → Precedes k p q
   precedes-there {p} {q} n l = omega (arith, c .ret p n, c .call q)
 
-  pub comes-back-lawful : Lawful k
-  comes-back-lawful = record {
-    kinds = λ p l. kinds p (back l) (ℕ-discrete p o);
-    spans = λ p l. spans p (back l) (ℕ-discrete p o);
-    ends = λ p l. ends p (back l) (ℕ-discrete p o);
-    returned = λ p l m. returned p (back l) m (ℕ-discrete p o);
-    unreturned = λ p l e r. unreturned p (back l) e r (ℕ-discrete p o);
-    apart = λ p q l m e. apart p q (back l) (back m) e (ℕ-discrete p o);
-    numbered = λ p q less m. omega (arith, lawful .numbered p q less (back m), c .call p, c .call q);
-    once = λ a b l m e f same.
-        let is : Is h add a = add-here (record { known = l; kinds = e }) in
-        let is' : Is h add b = add-here (record { known = m; kinds = f }) in
-        lawful .once a b (is .known) (is' .known) (is .kinds) (is' .kinds)
-        (sym (c .value a (kinded-other is (omega arith))) ∙ same ∙ c .value b (kinded-other is' (omega arith)));
-  }
-    where
-      back : {p : ℕ} → p < k .count → p < h .count
-      back l = omega (arith, c .count)
-
-      kinds : (p : ℕ) → p < h .count → Dec (p ≡ o) → k .kind p ≤ emptyRemove
-      kinds p l (yes e) = rw e (c .small)
-      kinds p l (no n) = omega (arith, c .kind p n, lawful .kinds p l)
-
-      spans : (p : ℕ) → p < h .count → Dec (p ≡ o) → k .call p < k .ret p
-      spans p l (yes e) = omega (arith, c .call p, c .last p l, ap (k .ret) e)
-      spans p l (no n) = omega (arith, c .call p, c .ret p n, lawful .spans p l)
-
-      ends : (p : ℕ) → p < h .count → Dec (p ≡ o) → k .ret p ≤ k .end
-      ends p l (yes e) = omega (arith, c .back, ap (k .ret) e)
-      ends p l (no n) = omega (arith, c .ret p n, c .end, lawful .ends p l)
-
-      returned : (p : ℕ) → p < h .count → add < k .kind p → Dec (p ≡ o) → k .ret p < k .end
-      returned p l m (yes e) = omega (arith, c .back, ap (k .ret) e)
-      returned p l m (no n) = omega (arith, c .ret p n, c .end, lawful .returned p l (omega (arith, c .kind p n)))
-
-      unreturned : (p : ℕ) → p < h .count → k .kind p ≡ noKind → k .ret p < k .end → Dec (p ≡ o) → ⊥
-      unreturned p l e r (yes same) = omega (arith, c .kinded, ap (k .kind) same)
-      unreturned p l e r (no n) = lawful .unreturned p l (sym (c .kind p n) ∙ e) (omega (arith, c .ret p n, c .end))
-
-      apart : (p q : ℕ) → p < h .count → q < h .count → k .ret p ≡ k .call q → Dec (p ≡ o) → ⊥
-      apart p q l m e (yes same) = omega (arith, c .call q, c .last q m, ap (k .ret) same)
-      apart p q l m e (no n) = lawful .apart p q l m (sym (c .ret p n) ∙ e ∙ c .call q)
-
-  -- an add whose value it does not take is removed as before
+  -- an add that is not removed, and whose value it does not take, is not removed there either
   never-there : {a : ℕ} → Is h add a → (RemoveOf k a o → ⊥) → (Removed h a → ⊥) → Removed k a → ⊥
   never-there {a} is free n (r, out) = go (ℕ-discrete r o)
     where
@@ -215,25 +172,70 @@ module _ {h k : History} {o : ℕ} (lawful : Lawful h) (c : ComesBack h k o) whe
     pub back : Returned h x
     pub first : (b : ℕ) → Free h b → (b ≡ x → ⊥) → h .ret x < h .ret b
 
+-- The history in which it comes back is lawful, and where it has no pattern, coming back mends the patterns that there were.
+module _ {h k : History} {o : ℕ} (lawful : Lawful h) (c : ComesBack h k o) where
+  pub comes-back-lawful : Lawful k
+  comes-back-lawful = record {
+    kinds = λ p l. kinds p (back l) (ℕ-discrete p o);
+    spans = λ p l. spans p (back l) (ℕ-discrete p o);
+    ends = λ p l. ends p (back l) (ℕ-discrete p o);
+    returned = λ p l m. returned p (back l) m (ℕ-discrete p o);
+    unreturned = λ p l e r. unreturned p (back l) e r (ℕ-discrete p o);
+    apart = λ p q l m e. apart p q (back l) (back m) e (ℕ-discrete p o);
+    numbered = λ p q less m. omega (arith, lawful .numbered p q less (back m), c .call p, c .call q);
+    once = λ a b l m e f same.
+        let is : Is h add a = add-here c (record { known = l; kinds = e }) in
+        let is' : Is h add b = add-here c (record { known = m; kinds = f }) in
+        lawful .once a b (is .known) (is' .known) (is .kinds) (is' .kinds)
+        (sym (c .value a (kinded-other c is (omega arith))) ∙ same ∙ c .value b (kinded-other c is' (omega arith)));
+  }
+    where
+      back : {p : ℕ} → p < k .count → p < h .count
+      back l = omega (arith, c .count)
+
+      kinds : (p : ℕ) → p < h .count → Dec (p ≡ o) → k .kind p ≤ emptyRemove
+      kinds p l (yes e) = rw e (c .small)
+      kinds p l (no n) = omega (arith, c .kind p n, lawful .kinds p l)
+
+      spans : (p : ℕ) → p < h .count → Dec (p ≡ o) → k .call p < k .ret p
+      spans p l (yes e) = omega (arith, c .call p, c .last p l, ap (k .ret) e)
+      spans p l (no n) = omega (arith, c .call p, c .ret p n, lawful .spans p l)
+
+      ends : (p : ℕ) → p < h .count → Dec (p ≡ o) → k .ret p ≤ k .end
+      ends p l (yes e) = omega (arith, c .back, ap (k .ret) e)
+      ends p l (no n) = omega (arith, c .ret p n, c .end, lawful .ends p l)
+
+      returned : (p : ℕ) → p < h .count → add < k .kind p → Dec (p ≡ o) → k .ret p < k .end
+      returned p l m (yes e) = omega (arith, c .back, ap (k .ret) e)
+      returned p l m (no n) = omega (arith, c .ret p n, c .end, lawful .returned p l (omega (arith, c .kind p n)))
+
+      unreturned : (p : ℕ) → p < h .count → k .kind p ≡ noKind → k .ret p < k .end → Dec (p ≡ o) → ⊥
+      unreturned p l e r (yes same) = omega (arith, c .kinded, ap (k .kind) same)
+      unreturned p l e r (no n) = lawful .unreturned p l (sym (c .kind p n) ∙ e) (omega (arith, c .ret p n, c .end))
+
+      apart : (p q : ℕ) → p < h .count → q < h .count → k .ret p ≡ k .call q → Dec (p ≡ o) → ⊥
+      apart p q l m e (yes same) = omega (arith, c .call q, c .last q m, ap (k .ret) same)
+      apart p q l m e (no n) = lawful .apart p q l m (sym (c .ret p n) ∙ e ∙ c .call q)
+
   -- only one value is taken
   pub takes-one : {a b : ℕ} → Is h add a → Is h add b → RemoveOf k a o → RemoveOf k b o → a ≡ b
   takes-one {a} {b} is is' out off =
       let value : h .value a ≡ h .value b =
-      sym (c .value a (kinded-other is (omega arith))) ∙ sym (out .same) ∙ off .same ∙ c .value b (kinded-other is' (omega arith)) in
+      sym (c .value a (kinded-other c is (omega arith))) ∙ sym (out .same) ∙ off .same ∙ c .value b (kinded-other c is' (omega arith)) in
       lawful .once a b (is .known) (is' .known) (is .kinds) (is' .kinds) value
 
   -- Where a pattern occurs, and none does when it comes back, it has taken a value. It was pattern 4, whose first add is the one
   -- that is taken, or 6, where that add covered a gap that is not covered any more; any other add that is not removed and has
   -- returned no later would be stuck, or cover the gap, still.
-  pub mends : NoViolation Queue k → {n : ℕ} {listed : List ℕ} → Occurs Queue h n listed → (x : ℕ) × Mends n x
-  mends clean (unknown x) = absurd (clean _ _ (unknown (unknown-there x)))
-  mends clean (twice x) = absurd (clean _ _ (twice (twice-there x)))
-  mends clean (early x) = absurd (clean _ _ (early (early-there x)))
-  mends clean (overtaken x) = absurd (clean _ _ (overtaken (overtaken-there x)))
+  pub mends : NoViolation Queue k → {n : ℕ} {listed : List ℕ} → Occurs Queue h n listed → (x : ℕ) × Mends c n x
+  mends clean (unknown x) = absurd (clean _ _ (unknown (unknown-there c x)))
+  mends clean (twice x) = absurd (clean _ _ (twice (twice-there c x)))
+  mends clean (early x) = absurd (clean _ _ (early (early-there c x)))
+  mends clean (overtaken x) = absurd (clean _ _ (overtaken (overtaken-there c x)))
   mends clean (stuck {a = a} {b = b} t) = go (remove-of? k a o)
     where
-      go : Dec (RemoveOf k a o) → (x : ℕ) × Mends 4 x
-      go (no free) = absurd (clean _ _ (stuck (stuck-there free t)))
+      go : Dec (RemoveOf k a o) → (x : ℕ) × Mends c 4 x
+      go (no free) = absurd (clean _ _ (stuck (stuck-there c free t)))
       go (yes out) = (
         a,
         record {
@@ -254,21 +256,21 @@ module _ {h k : History} {o : ℕ} (lawful : Lawful h) (c : ComesBack h k o) whe
                 removes = t .removes;
                 never = free .unremoved;
               } in
-              let later : h .ret d ≤ h .ret a → ⊥ = λ l. clean _ _ (stuck (stuck-there (λ off. n (takes-one (free .adds) (t .first) off out)) (sooner l))) in
+              let later : h .ret d ≤ h .ret a → ⊥ = λ l. clean _ _ (stuck (stuck-there c (λ off. n (takes-one (free .adds) (t .first) off out)) (sooner l))) in
               omega arith
   mends clean (falseEmpty {e = e} x) = go (last-gap k e)
     where
-      at : (g : ℕ) → LastGap k e g → (x : ℕ) × Mends 6 x
+      at : (g : ℕ) → LastGap k e g → (x : ℕ) × Mends c 6 x
       at g last = by (x .covered g gap)
         where
           gap : Gap h e g
-          gap = gap-here (x .empties) (last .lies)
+          gap = gap-here c (x .empties) (last .lies)
 
-          by : Covered h g → (x : ℕ) × Mends 6 x
+          by : Covered h g → (x : ℕ) × Mends c 6 x
           by (a, reach, covers) = taken (remove-of? k a o)
             where
-              taken : Dec (RemoveOf k a o) → (x : ℕ) × Mends 6 x
-              taken (no free) = absurd (last .uncovered (a, reach, covers-there free covers))
+              taken : Dec (RemoveOf k a o) → (x : ℕ) × Mends c 6 x
+              taken (no free) = absurd (last .uncovered (a, reach, covers-there c free covers))
               taken (yes out) = (
                 a,
                 record {
@@ -289,9 +291,9 @@ module _ {h k : History} {o : ℕ} (lawful : Lawful h) (c : ComesBack h k o) whe
                         until = omega (arith, gap .until, lawful .ends e (x .empties .known));
                       } in
                       let other : RemoveOf k d o → ⊥ = λ off. n (takes-one (free .adds) (covers .adds) off out) in
-                      let later : h .ret d ≤ h .ret a → ⊥ = λ l. last .uncovered (d, h .end, covers-there other (still l)) in
+                      let later : h .ret d ≤ h .ret a → ⊥ = λ l. last .uncovered (d, h .end, covers-there c other (still l)) in
                       omega arith
 
-      go : AllCovered k e ⊎ ((g : ℕ) × LastGap k e g) → (x : ℕ) × Mends 6 x
-      go (inl covered) = let (chain, f) = false-empty (is-there (x .empties) (omega arith)) covered in absurd (clean _ _ (falseEmpty f))
+      go : AllCovered k e ⊎ ((g : ℕ) × LastGap k e g) → (x : ℕ) × Mends c 6 x
+      go (inl covered) = let (chain, f) = false-empty (is-there c (x .empties) (omega arith)) covered in absurd (clean _ _ (falseEmpty f))
       go (inr (g, last)) = at g last

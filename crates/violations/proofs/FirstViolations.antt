@@ -15,8 +15,8 @@ use Rattle.violations.specs.Verdict.{FirstViolation, JudgedLinearization
 use Rattle.violations.specs.Found.{LastGap}
 use Rattle.violations.proofs.Operations.{is?, removed?}
 use Rattle.violations.proofs.Chains.{chain-one, false-empty, last-gap}
-use Rattle.violations.proofs.Occurrences.{highestNumber, sizeOf, occurs-numbered, occurs-sized, occurs-known}
-use Rattle.violations.proofs.Lowest.{Compared, lower-total, same?, LowestList, Sought, only-lowest, LowestPair, lowest-pair, lowest-cons, lowest-sized}
+use Rattle.violations.proofs.Occurrences.{highestNumber, OfKinds, of-kinds?, kindsOf, occurs-numbered, occurs-of-kinds, occurs-known}
+use Rattle.violations.proofs.Lowest.{Compared, lower-total, same?, LowestList, Sought, only-lowest, LowestPair, lowest-pair, lowest-cons, lowest-passing}
 use Rattle.violations.proofs.Deciding.{queue-occurs?}
 use Rattle.violations.proofs.CellDeciding.{cell-occurs?}
 
@@ -38,7 +38,7 @@ false-empty-of h e = go (is? h emptyRemove e) (last-gap h e)
 
 -- the lowest list with which a pattern occurs is sought
 lowest-occurrence : (object : Object) (h : History) (n : ℕ) → Sought (Occurs object h n)
-unfolding ℕ-discrete queue-occurs? cell-occurs? lowest-sized lowest-pair lowest-cons false-empty-of
+unfolding ℕ-discrete queue-occurs? cell-occurs? of-kinds? lowest-passing lowest-pair lowest-cons false-empty-of
 lowest-occurrence Queue h n = go (ℕ-discrete n 6)
   where
     six : Sought (Occurs Queue h 6)
@@ -46,10 +46,10 @@ lowest-occurrence Queue h n = go (ℕ-discrete n 6)
 
     go : Dec (n ≡ 6) → Sought (Occurs Queue h n)
     go (yes e) = rw e six
-    go (no other) = lowest-sized (h .count) (sizeOf n) (Occurs Queue h n) (queue-occurs? h n other) (λ listed o. (occurs-sized other o, occurs-known o))
+    go (no other) = lowest-passing (OfKinds h) (of-kinds? h) (h .count) (λ t o p. p .0) (kindsOf n) (Occurs Queue h n) (queue-occurs? h n other) (λ listed. occurs-of-kinds other)
 lowest-occurrence Cell h n =
-    lowest-sized (h .count) (sizeOf n) (Occurs Cell h n) (cell-occurs? h n)
-    (λ listed o. (occurs-sized (λ e. omega (arith, occurs-numbered o)) o, occurs-known o))
+    lowest-passing (OfKinds h) (of-kinds? h) (h .count) (λ t o p. p .0) (kindsOf n) (Occurs Cell h n) (cell-occurs? h n)
+    (λ listed o. occurs-of-kinds (λ e. omega (arith, occurs-numbered o)) o)
 
 -- A history has a first violation.
 abbrev pub SomeViolation : Object → History → Type 0

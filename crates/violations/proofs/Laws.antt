@@ -1,5 +1,6 @@
 -- The theorems of this crate, for everything above: stated here, or passed on from the file that proves them. The histories of
--- readable logs are lawful (`history-lawful` of the crate history), so all of this holds of every readable log.
+-- readable logs are lawful, and no remove is pending in them (`history-lawful`, `history-returned` of the crate history), so what is
+-- said of a queue holds of every readable log.
 use Prim.Native.Nat.{ℕ}
 use native.Mathlib.Decide.{ℕ-discrete}
 use mathlib.Core.Path.{_≡_, sym, _∙_}
@@ -27,13 +28,13 @@ pub use Rattle.violations.proofs.Occurrences.{lowestNumber, highestNumb
 -- An empty remove has all its gaps covered exactly if there is a chain, and there is only one.
 pub use Rattle.violations.proofs.Chains.{chained-exactly, chain-one}
 -- A legal order of a queue's history that leaves a pending remove out rules every pattern out, and gives each empty remove a
--- witness gap. So does any legal order of a cell's history.
+-- witness gap. Any legal order of a cell's history rules every pattern of a cell out.
 pub use Rattle.violations.proofs.Excluding.{Witness, witness-gap, excluded}
 pub use Rattle.violations.proofs.CellExcluding.{cell-excluded}
 -- An order as the judge lists it leaves a pending remove out, and lists just what is to be listed.
 pub use Rattle.violations.proofs.Judged.{judged-complete, judged-due, due-judged, returned-due}
--- It rules every pattern out, and one exists exactly if no pattern occurs; where none occurs, there is a lowest one, and only one. So
--- is there a legal order of a queue's history that leaves a pending remove out.
+-- It rules every pattern out, and one exists exactly if no pattern occurs; where none occurs, there is a lowest one, and only one. A
+-- legal order of a queue's history that leaves a pending remove out exists exactly if no pattern occurs.
 pub use Rattle.violations.proofs.CompleteVerdicts.{judged-excluded, judged-exactly, lowest-exists, lowest-one, complete-exactly}
 -- A verdict lists at most 682 operations, if there are at most 1,024 records. Their numbers are below 1,024, and the verdict byte
 -- is at most the highest number of a pattern.
@@ -47,7 +48,8 @@ pub use Rattle.violations.proofs.Constructing.{tables-match, tables-fit
 -- Where no pattern occurs, it finds such an order, and only one. It is the lowest.
 pub use Rattle.violations.proofs.Finding.{found-one, found-exists}
 pub use Rattle.violations.proofs.QueueLowest.{found-lowest}
--- The same of the search for an order of a cell's history.
+-- The search for an order of a cell's history: it starts, places, goes on and ends in the same way, and where no pattern occurs it
+-- finds the lowest order.
 pub use Rattle.violations.proofs.CellPlacing.{cell-starts, cell-places, cell-ends}
 pub use Rattle.violations.proofs.CellProgress.{cell-goes-on}
 pub use Rattle.violations.proofs.CellFinding.{clean-sound, cell-found-exists}

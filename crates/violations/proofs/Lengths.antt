@@ -1,6 +1,6 @@
 -- How many operations a verdict lists: at most 682, if there are at most 1,024 records. Of the two halves of each position, an
 -- operation that is listed has three that no other has: both of its call, and one of its return or of the return of its
--- value's remove. A remove that has not returned and took the value of an add has one of the return of that add.
+-- value's remove; a remove that has not returned and has taken the value of an add has one of the return of that add.
 use Prim.Native.Nat.{ℕ, zero, suc, _+_, _*_, _/_, _%_, _≤_, _<_}
 use native.Mathlib.Omega.{arith}
 use native.Mathlib.Decide.{decLt, ℕ-discrete}
@@ -31,7 +31,7 @@ pub record Positions (h : History) (bound : ℕ) : Type 0 where
   pub calls : (o : ℕ) → o < h .count → h .call o < bound
   pub returns : (o : ℕ) → o < h .count → Returned h o → h .ret o < bound
 
--- an operation that is listed where operation `taker` has taken the value of an add: any that is to be listed, and the taker
+-- what a verdict lists where `taker` has taken the value of an add: what is to be listed, and the taker
 data Counted (h : History) (taker o : ℕ) : Type 0 where
   is-due : Due h o → Counted h taker o
   is-taker : {a : ℕ} → o ≡ taker → o < h .count → Is h add a → Returned h a → Counted h taker o
@@ -169,7 +169,7 @@ taken-counted {h} {k} {o} {a} lawful c adds back takes {p} due = go (ℕ-discret
         by (yes same) =
             let p-is : p ≡ a = takes-one lawful c (record { known = known; kinds = e }) adds (rw same at out) takes in
             record { known = known; kinded = omega arith; listed = inl (omega (arith, ap (h .ret) p-is)) }
-        by (no m) = record { known = known; kinded = omega arith; listed = inr (r, remove-here lawful c (record { known = known; kinds = e }) out m) }
+        by (no m) = record { known = known; kinded = omega arith; listed = inr (r, remove-here c (record { known = known; kinds = e }) out m) }
 
     go : Dec (p ≡ o) → Counted h o p
     go (yes e) = is-taker e known adds back

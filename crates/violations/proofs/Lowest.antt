@@ -1,12 +1,10 @@
 -- Lists compared left to right, and searches for the lowest list that has a property, in a form that computes.
-use Prim.Native.Nat.{ℕ, zero, suc, _<_}
+use Prim.Native.Nat.{ℕ, _<_}
 use native.Mathlib.Omega.{arith}
 use native.Mathlib.Decide.{decLt}
 use mathlib.Core.Path.{_≡_, refl, sym}
 use mathlib.Core.Logic.{_⊎_, inl, inr}
 use mathlib.Core.List.{List, [], _∷_}
-use lib.ListN.{length}
-use Rattle.history.specs.Each.{Each}
 use Rattle.reader.proofs.Search.{Lowest, None, lowest}
 use Rattle.violations.specs.Verdict.{Lower, ends, here, further}
 
@@ -102,21 +100,33 @@ lowest-cons {P} nonempty (inr none) = inr go
     go [] p = nonempty p
     go (x ∷ xs) p = none x xs p
 
--- the lowest list is sought that has a property which only lists of so many numbers below a bound have
-unfoldable pub lowest-sized : (bound size : ℕ) (P : List ℕ → Type 0) → ((xs : List ℕ) → Dec (P xs))
-    → ((xs : List ℕ) → P xs → (length xs ≡ size) × Each (λ x. x < bound) xs) → Sought P
+-- The numbers of a list pass these tests, one after the other.
+abbrev pub Passing : {A : Type 0} → (A → ℕ → Type 0) → List A → List ℕ → Type 0
+Passing Passes [] [] = Unit {0}
+Passing Passes [] (x ∷ xs) = ⊥
+Passing Passes (t ∷ ts) [] = ⊥
+Passing Passes (t ∷ ts) (x ∷ xs) = Passes t x × Passing Passes ts xs
+
+-- the lowest list is sought that has a property, if only lists that pass some tests have it, and only numbers below a bound pass one
+unfoldable pub lowest-passing : {A : Type 0} (Passes : A → ℕ → Type 0) → ((t : A) (x : ℕ) → Dec (Passes t x)) → (bound : ℕ)
+    → ((t : A) (x : ℕ) → Passes t x → x < bound)
+    → (ts : List A) (P : List ℕ → Type 0) → ((xs : List ℕ) → Dec (P xs)) → ((xs : List ℕ) → P xs → Passing Passes ts xs) → Sought P
 unfolding only-lowest lowest-pair lowest-cons
-lowest-sized bound zero P d sized = go (d [])
+lowest-passing Passes passes? bound below [] P d passing = go (d [])
   where
-    empty : (xs : List ℕ) → length xs ≡ 0 → xs ≡ []
-    empty [] e = refl
-    empty (x ∷ xs) e = absurd (omega arith)
+    empty : (xs : List ℕ) → Passing Passes [] xs → xs ≡ []
+    empty [] p = refl
+    empty (x ∷ xs) p = absurd p
 
     go : Dec (P []) → Sought P
-    go (yes p) = inl (only-lowest p (λ xs q. empty xs (sized xs q .0)))
-    go (no n) = inr (λ xs p. n (rw (empty xs (sized xs p .0)) at p))
-lowest-sized bound (suc size) P d sized =
-    lowest-cons (λ p. omega (arith, sized [] p .0))
+    go (yes p) = inl (only-lowest p (λ xs q. empty xs (passing xs q)))
+    go (no n) = inr (λ xs p. n (rw (empty xs (passing xs p)) at p))
+lowest-passing {A} Passes passes? bound below (t ∷ ts) P d passing =
+    lowest-cons (passing [])
     (lowest-pair (λ x xs. P (x ∷ xs))
-    (λ x. lowest-sized bound size (λ xs. P (x ∷ xs)) (λ xs. d (x ∷ xs)) (λ xs p. let (e, all) = sized (x ∷ xs) p in (omega arith, all .1)))
-    bound (λ x xs p. sized (x ∷ xs) p .1 .0))
+    (λ x. go (passes? t x) (lowest-passing Passes passes? bound below ts (λ xs. P (x ∷ xs)) (λ xs. d (x ∷ xs)) (λ xs p. passing (x ∷ xs) p .1)))
+    bound (λ x xs p. below t x (passing (x ∷ xs) p .0)))
+  where
+    go : {x : ℕ} → Dec (Passes t x) → Sought (λ xs. P (x ∷ xs)) → Sought (λ xs. P (x ∷ xs))
+    go (yes pass) rest = rest
+    go {x} (no n) rest = inr (λ xs p. n (passing (x ∷ xs) p .0))

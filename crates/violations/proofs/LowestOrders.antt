@@ -15,9 +15,8 @@ use Rattle.violations.proofs.Lists.{snoc}
 use Rattle.violations.proofs.Judged.{judged-due, due-judged}
 use Rattle.violations.proofs.Orderings.{same-place, in-order}
 
--- An order as the judge lists it goes on, after `order`, with o.
-module _ {object : Object} {h : History} (lawful : Lawful h) (order : List ℕ) (o : ℕ) (rest : List ℕ)
-    (judged : JudgedLinearization object h (order ++ (o ∷ rest))) where
+-- An order goes on, after `order`, with o.
+module _ (order : List ℕ) (o : ℕ) (rest : List ℕ) where
   abbrev pub whole : List ℕ
   whole = order ++ (o ∷ rest)
 
@@ -32,8 +31,8 @@ module _ {object : Object} {h : History} (lawful : Lawful h) (order : List ℕ) 
     here = List·getD-append order (o ∷ rest) 0 (l .at) (l .below) ∙ l .here;
   }
 
-  -- what is left stands at the place of o or behind it
-  pub left-behind : {p : ℕ} → Left h order p → (l : Listed whole p) → length order ≤ l .at
+  -- what is left stands at the place of o or after it
+  left-behind : {h : History} {p : ℕ} → Left h order p → (l : Listed whole p) → length order ≤ l .at
   left-behind left l =
       let not-before : l .at < length order → ⊥ = λ b. left .unplaced (record {
         at = l .at;
@@ -42,20 +41,25 @@ module _ {object : Object} {h : History} (lawful : Lawful h) (order : List ℕ) 
       }) in
       omega arith
 
-  -- and if it is another, behind it
-  pub other-behind : {p : ℕ} → Left h order p → (o ≡ p → ⊥) → (l : Listed whole p) → length order < l .at
+  -- and if it is another, after it
+  pub other-behind : {h : History} {p : ℕ} → Left h order p → (o ≡ p → ⊥) → (l : Listed whole p) → length order < l .at
   other-behind left n l =
       let not-here : length order ≡ l .at → ⊥ = λ e. n (sym (goes-on-at .here) ∙ ap (placed whole) e ∙ l .here) in
       omega (arith, left-behind left l)
 
-  -- o is left, and enabled
+-- If it is an order as the judge lists it, o is left, and enabled.
+module _ {object : Object} {h : History} (lawful : Lawful h) (order : List ℕ) (o : ℕ) (rest : List ℕ)
+    (judged : JudgedLinearization object h (order ++ (o ∷ rest))) where
+  abbrev at-o : Listed (whole order o rest) o
+  at-o = goes-on-at order o rest
+
   pub goes-on-left : Left h order o
-  goes-on-left = record { due = rw (goes-on-at .here) at (judged-due lawful judged (goes-on-at .at) (goes-on-at .below)); unplaced = unplaced }
+  goes-on-left = record { due = rw (at-o .here) at (judged-due lawful judged (at-o .at) (at-o .below)); unplaced = unplaced }
     where
       unplaced : Listed order o → ⊥
       unplaced l =
-          let m = listed-there l in
-          omega (arith, l .below, same-place (judged .legal .ordering) (l .at) (length order) (m .below) (goes-on-at .below) (m .here ∙ sym (goes-on-at .here)))
+          let m = listed-there order o rest l in
+          omega (arith, l .below, same-place (judged .legal .ordering) (l .at) (length order) (m .below) (at-o .below) (m .here ∙ sym (at-o .here)))
 
   pub goes-on-enabled : Enabled h order o
   goes-on-enabled = record { left = goes-on-left; first = first }
@@ -63,11 +67,11 @@ module _ {object : Object} {h : History} (lawful : Lawful h) (order : List ℕ) 
       first : (p : ℕ) → Left h order p → h .call o < h .ret p
       first p l =
           let m = due-judged lawful judged (l .due) in
-          let not-before : Precedes h p o → ⊥ = λ before. omega (arith, in-order (judged .legal .ordering) lawful before m goes-on-at, left-behind l m) in
+          let not-before : Precedes h p o → ⊥ = λ before. omega (arith, in-order (judged .legal .ordering) lawful before m at-o, left-behind order o rest l m) in
           let apart : h .ret p ≡ h .call o → ⊥ = lawful .apart p o (l .due .known) (goes-on-left .due .known) in
           omega arith
 
--- Behind a common start no order as the judge lists it is lower than what the search lists. `Stands` is whatever holds while
+-- After a common start no order as the judge lists it is lower than what the search lists. `Stands` is whatever holds while
 -- operations are placed and lets one place what such an order goes on with.
 module _ {object : Object} {S : Type 0} {h : History} {Serves : List ℕ → ℕ → S → S → Type 0} (lawful : Lawful h) (Stands : List ℕ → S → Type 0)
     (stands-more : (order : List ℕ) (s s' : S) (o : ℕ) → Stands order s → Placeable h Serves order s o s' → Stands (snoc order o) s')

@@ -1,9 +1,11 @@
 -- What an occurrence of a pattern lists, and under which number.
 use Prim.Native.Nat.{ℕ, _≤_, _<_}
 use native.Mathlib.Omega.{arith}
+use native.Mathlib.Decide.{decLt, decLe}
 use mathlib.Core.Path.{_≡_, refl}
+use mathlib.Core.Logic.{Dec·and}
 use mathlib.Core.List.{List, [], _∷_}
-use lib.ListN.{length, getD}
+use lib.ListN.{getD}
 use Rattle.history.specs.Object.{Object, Queue, Cell}
 use Rattle.history.specs.History.{History, add}
 use Rattle.history.specs.Each.{Each}
@@ -11,6 +13,7 @@ use Rattle.history.specs.Sheet.{orderVerdict}
 use Rattle.violations.specs.Cells.{On}
 use Rattle.violations.specs.Violations.{Is, Chain, all, link, Occurs, unknown, twice, early, stuck, overtaken, falseEmpty, unwritten, premature, crossed, stale}
 use Rattle.violations.proofs.Lists.{each-map}
+use Rattle.violations.proofs.Lowest.{Passing}
 use Rattle.violations.proofs.CellOperations.{on-kinded}
 
 -- What occurs lists operations of the history, and each has a kind.
@@ -72,18 +75,46 @@ occurs-some {object} {n = n} o e = go object (occurs-numbered o)
     go Queue l = omega arith
     go Cell l = omega arith
 
--- how many operations each of them lists, but for 6, whose chains are as long as they are
-abbrev pub sizeOf : ℕ → ℕ
-sizeOf n = getD (0 ∷ 1 ∷ 2 ∷ 2 ∷ 3 ∷ 4 ∷ 0 ∷ 1 ∷ 2 ∷ 4 ∷ 2 ∷ []) n 0
+-- an operation whose kind is from one number to another
+abbrev pub OfKinds : History → ℕ × ℕ → ℕ → Type 0
+OfKinds h kinds o = (o < h .count) × ((kinds .0 ≤ h .kind o) × (h .kind o ≤ kinds .1))
 
-pub occurs-sized : {object : Object} {h : History} {n : ℕ} {listed : List ℕ} → (n ≡ 6 → ⊥) → Occurs object h n listed → length listed ≡ sizeOf n
-occurs-sized other (unknown u) = refl
-occurs-sized other (twice t) = refl
-occurs-sized other (early t) = refl
-occurs-sized other (stuck t) = refl
-occurs-sized other (overtaken t) = refl
-occurs-sized other (falseEmpty t) = absurd (other refl)
-occurs-sized other (unwritten t) = refl
-occurs-sized other (premature t) = refl
-occurs-sized other (crossed t) = refl
-occurs-sized other (stale t) = refl
+unfoldable pub of-kinds? : (h : History) (kinds : ℕ × ℕ) (o : ℕ) → Dec (OfKinds h kinds o)
+unfolding Dec·and decLt decLe
+of-kinds? h kinds o = Dec·and (decLt _ _) (Dec·and (decLe _ _) (decLe _ _))
+
+-- the kinds of the operations that each pattern lists, but for 6, whose chains are as long as they are
+abbrev pub kindsOf : ℕ → List (ℕ × ℕ)
+kindsOf n =
+    getD (
+    [] ∷
+    ((2, 2) ∷ []) ∷
+    ((2, 2) ∷ (2, 2) ∷ []) ∷
+    ((2, 2) ∷ (1, 1) ∷ []) ∷
+    ((1, 1) ∷ (1, 1) ∷ (2, 2) ∷ []) ∷
+    ((1, 1) ∷ (1, 1) ∷ (2, 2) ∷ (2, 2) ∷ []) ∷
+    [] ∷
+    ((2, 2) ∷ []) ∷
+    ((2, 2) ∷ (1, 1) ∷ []) ∷
+    ((1, 2) ∷ (1, 2) ∷ (1, 2) ∷ (1, 2) ∷ []) ∷
+    ((1, 2) ∷ (3, 3) ∷ []) ∷
+    []) n []
+
+is-of : {h : History} {kind o : ℕ} → Is h kind o → OfKinds h (kind, kind) o
+is-of is = (is .known, (omega (arith, is .kinds), omega (arith, is .kinds)))
+
+on-of : {h : History} {v o : ℕ} → On h v o → OfKinds h (1, 2) o
+on-of on = (on .known, (on-kinded on .0, omega (arith, on-kinded on .1)))
+
+pub occurs-of-kinds : {object : Object} {h : History} {n : ℕ} {listed : List ℕ} → (n ≡ 6 → ⊥) → Occurs object h n listed
+    → Passing (OfKinds h) (kindsOf n) listed
+occurs-of-kinds other (unknown u) = (is-of (u .removes), tt)
+occurs-of-kinds other (twice t) = (is-of (t .first), (is-of (t .second), tt))
+occurs-of-kinds other (early t) = (is-of (t .removes .removes), (is-of (t .adds), tt))
+occurs-of-kinds other (stuck t) = (is-of (t .first), (is-of (t .second), (is-of (t .removes .removes), tt)))
+occurs-of-kinds other (overtaken t) = (is-of (t .first), (is-of (t .second), (is-of (t .removes .removes), (is-of (t .removes-late .removes), tt))))
+occurs-of-kinds other (falseEmpty t) = absurd (other refl)
+occurs-of-kinds other (unwritten t) = (is-of (t .reads), tt)
+occurs-of-kinds other (premature t) = (is-of (t .reads), (is-of (t .writes), tt))
+occurs-of-kinds other (crossed t) = (on-of (t .first), (on-of (t .second), (on-of (t .third), (on-of (t .fourth), tt))))
+occurs-of-kinds other (stale t) = (on-of (t .on), (is-of (t .reads), tt))

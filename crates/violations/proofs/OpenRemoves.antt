@@ -24,7 +24,7 @@ use Rattle.violations.proofs.CompleteVerdicts.{complete-exactly}
 use Rattle.violations.proofs.Fates.{comingBack, ComesBack, coming-back, taking-back, comes-back-lawful, is-here, remove-there, mends}
 
 module _ {h k : History} {o : ℕ} (c : ComesBack h k o) where
-  -- what another operation makes of a queue it makes of it in both
+  -- an operation other than o makes the same of a queue in both
   makes-there : {p : ℕ} {queue queue' : List ℕ} → (p ≡ o → ⊥) → Makes h p queue queue' → Makes k p queue queue'
   makes-there {p} n (puts e) = rw (← (c .value p n)) (puts (c .kind p n ∙ e))
   makes-there {p} n (takes e f) = takes (c .kind p n ∙ e) (c .value p n ∙ f)
@@ -154,14 +154,14 @@ module _ {h : History} (lawful : Lawful h) (lone : Lone h) {o : ℕ} (pending : 
       other e = omega (arith, ap (comingBack h o remove v .kind) e, s .adds .kinds, c .kinded)
 
       adds : Is h add (s .adder)
-      adds = is-here lawful c (s .adds) other
+      adds = is-here c (s .adds) other
 
       value : h .value (s .adder) ≡ v
       value = sym (c .value (s .adder) other) ∙ sym (s .removes .same) ∙ rw (eq-eqb o o refl) refl
 
       otherwise : (r : ℕ) → RemoveOf h (s .adder) r → ⊥
       otherwise r out =
-          let there = remove-there lawful c adds out in
+          let there = remove-there c adds out in
           let same : r ≡ o = single (comes-back-lawful lawful c) legal (there .removes) (s .removes .removes) (there .same ∙ sym (s .removes .same)) in
           omega (arith, ap (h .kind) same, out .removes .kinds, pending .kinds)
 

@@ -26,6 +26,10 @@ use Rattle.violations.proofs.Placing.{serves-makes}
 use Rattle.violations.proofs.Progress.{reach-is}
 use Rattle.violations.proofs.LowestOrders.{goes-on-at, other-behind, goes-on-left, goes-on-enabled, continues-lowest}
 
+-- While operations are placed, what can be run after them can be run on the queue.
+Follows : History → List ℕ → List ℕ → Type 0
+Follows h order queue = (more : List ℕ) → Fifo h (order ++ more) [] → Fifo h more (map (h .value) queue)
+
 module _ {h : History} (lawful : Lawful h) {reach gap : ℕ → ℕ} (reaches : (a : ℕ) → Is h add a → Reaches h a (reach a))
     (gaps : (e : ℕ) → Is h emptyRemove e → LastGap h e (gap e)) where
   -- An order as the judge lists it goes on, after `order`, with p.
@@ -37,7 +41,7 @@ module _ {h : History} (lawful : Lawful h) {reach gap : ℕ → ℕ} (reaches : 
     legal = judged-complete judged
 
     abbrev p-at : Listed whole p
-    p-at = goes-on-at lawful order p rest judged
+    p-at = goes-on-at order p rest
 
     known : p < h .count
     known = goes-on-left lawful order p rest judged .due .known
@@ -60,7 +64,7 @@ module _ {h : History} (lawful : Lawful h) {reach gap : ℕ → ℕ} (reaches : 
           go : Dec (p ≡ b) → reach p < h .ret r
           go (yes e) = omega (arith, reach-is matched adding (rw (← e) at out), lawful .spans r (out .removes .known))
           go (no n) =
-              let behind : p-at .at < s .adding .at = other-behind lawful order p rest judged left n (rw (adder-is lawful legal is out s) at (s .adding)) in
+              let behind : p-at .at < s .adding .at = other-behind order p rest left n (rw (adder-is lawful legal is out s) at (s .adding)) in
               let m = s .removing in
               let t : Taken h whole (p-at .at) (m .at) =
               taken h whole (legal .runs) (p-at .at) (m .at) (omega (arith, s .before)) (omega (arith, m .below)) add-here
@@ -76,7 +80,7 @@ module _ {h : History} (lawful : Lawful h) {reach gap : ℕ → ℕ} (reaches : 
       before-empties e is left =
           let w : Witness h whole e = witness-gap lawful legal is in
           let other : p ≡ e → ⊥ = λ z. omega (arith, ap (h .kind) z, adding .kinds, is .kinds) in
-          let behind : p-at .at < w .listed .at = other-behind lawful order p rest judged left other (w .listed) in
+          let behind : p-at .at < w .listed .at = other-behind order p rest left other (w .listed) in
           let empty-here : h .kind (placed whole (w .listed .at)) ≡ emptyRemove = ap (h .kind) (w .listed .here) ∙ is .kinds in
           let t = taken-before-empty h whole (legal .runs) (p-at .at) (w .listed .at) behind (w .listed .below) add-here empty-here in
           let not-later : gap e < w .gap → ⊥ = λ l. w .uncovered (gaps e is .last (w .gap) l (w .lies)) in
@@ -96,18 +100,14 @@ module _ {h : History} (lawful : Lawful h) {reach gap : ℕ → ℕ} (reaches : 
     p-serves [] made (no n) (no m) = ([], meets-empty (omega (arith, makes-kind made)))
     p-serves (a ∷ queue) made (no n) (no m) = absurd (omega (arith, ap length (makes-empty made (omega (arith, makes-kind made)))))
 
-  -- while operations are placed, what can be run after them can be run on the queue
-  Follows : List ℕ → List ℕ → Type 0
-  Follows order queue = (more : List ℕ) → Fifo h (order ++ more) [] → Fifo h more (map (h .value) queue)
-
-  follows-more : (order queue queue' : List ℕ) (o : ℕ) → Follows order queue → Placeable h (Serves h reach gap) order queue o queue'
-      → Follows (snoc order o) queue'
+  follows-more : (order queue queue' : List ℕ) (o : ℕ) → Follows h order queue → Placeable h (Serves h reach gap) order queue o queue'
+      → Follows h (snoc order o) queue'
   unfolding Follows
   follows-more order queue queue' o follows p more run =
       let (there, made, after) = run-first (follows (o ∷ more) (rw (append-snoc order o more) at run)) in
       rw (makes-one (serves-makes (p .serves)) made) after
 
-  next : (order queue : List ℕ) (o : ℕ) (rest : List ℕ) → Follows order queue → JudgedLinearization Queue h (order ++ (o ∷ rest))
+  next : (order queue : List ℕ) (o : ℕ) (rest : List ℕ) → Follows h order queue → JudgedLinearization Queue h (order ++ (o ∷ rest))
       → (queue' : List ℕ) × Placeable h (Serves h reach gap) order queue o queue'
   unfolding Follows
   next order queue o rest follows judged =
@@ -121,6 +121,6 @@ unfolding Follows
 found-lowest {h} lawful found judged = record {
   judged = judged;
   none-lower =
-      continues-lowest lawful (Follows lawful (found .reaches) (found .gaps)) (follows-more lawful (found .reaches) (found .gaps))
+      continues-lowest lawful (Follows h) (follows-more lawful (found .reaches) (found .gaps))
       (next lawful (found .reaches) (found .gaps)) (found .continues) (λ more run. run);
 }

@@ -11,8 +11,8 @@ use Rattle.history.specs.Runs.{Holds, Correct}
 use Rattle.history.proofs.Deciding.{all-below?, implies?, equivalent?, some?}
 use Rattle.history.proofs.Rows.{each?, history, reading, rows-hold, rows-correct}
 use Rattle.violations.specs.Violations.{Is}
-use Rattle.violations.specs.Verdict.{FirstViolation, JudgedLinearization, Verdict}
-use Rattle.violations.specs.Fates.{taking, Free, left-out}
+use Rattle.violations.specs.Verdict.{FirstViolation, JudgedLinearization}
+use Rattle.violations.specs.Fates.{taking, Free}
 use Rattle.violations.specs.Runs.{Expected, linearization, violation, Judged, runs, picks, cellRuns, Settling, leaves-out, lets-take, Settles, openRuns}
 use Rattle.violations.proofs.Lists.{each-map}
 use Rattle.violations.proofs.Operations.{is?}
@@ -112,7 +112,7 @@ computed? h (lets-take o a listed) =
 
 -- that is enough
 computed-settles : (h : History) (says : Settling) → Computed h says → Settles h says
-computed-settles h (leaves-out (linearization listed)) judged = Verdict.linearization left-out judged
+computed-settles h (leaves-out (linearization listed)) judged = judged
 computed-settles h (leaves-out (violation number listed)) ((lawful, lone), (first, (o, (a, (c, (n, pattern, there)))))) =
     it-fails lawful lone (c .pending) first (c .free) (λ b free. c .soonest b (free .adds .known) free)
     (λ success. complete-exactly (comes-back-lawful lawful (taking-back lone (c .pending) a)) .0 success n pattern (there .occurs))

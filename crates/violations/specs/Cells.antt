@@ -1,5 +1,5 @@
--- Document 02, change 5, "New patterns": a record for each, in the document's order. The operations that a record is about stand in the order in which it
--- lists them.
+-- Document 02, change 5, "New patterns": a record for each, in the document's order. The operations that a record is about stand
+-- in the order in which the document lists them.
 use Prim.Native.Nat.{ℕ, _<_}
 use mathlib.Core.Path.{_≡_}
 use mathlib.Core.Logic.{_⊎_}
@@ -30,8 +30,8 @@ pub record Premature (h : History) (r w : ℕ) : Type 0 where
   pub same : h .value r ≡ h .value w
   pub before : Precedes h r w
 
--- 9. "for two written values, an operation of a precedes one of b, and one of b precedes one of a (those four in that order)". Operations may repeat:
--- o and r may be one, and p and q.
+-- 9. "for two written values, an operation of a precedes one of b, and one of b precedes one of a (those four in that order)".
+-- Operations may repeat: o and r may be one, and p and q.
 pub record Crossed (h : History) (o p q r : ℕ) : Type 0 where
   pub a : ℕ
   pub b : ℕ

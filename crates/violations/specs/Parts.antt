@@ -1,6 +1,7 @@
 -- Parts of a history, and histories that are alike. Document 01's excerpt and narrowing keep "all records of all operations" on
--- some values, an excerpt one empty remove too: the history of such a log is a part. Where two neighbouring calls or returns
--- "trade places" (demand 3), the histories of the two logs are alike.
+-- some values, an excerpt one empty remove too, and a cell's excerpt for pattern 10 all initial reads (document 02, change 5): the
+-- history of such a log is a part. Where two neighbouring calls or returns "trade places" (demand 3), the histories of the two logs
+-- are alike.
 use Prim.Native.Nat.{ℕ, _≤_, _<_}
 use mathlib.Core.Path.{_≡_}
 use mathlib.Core.Logic.{_↔_}
@@ -17,8 +18,8 @@ pub record KeptAs (part : History) (to : ℕ → ℕ) (o q : ℕ) : Type 0 where
   pub known : q < part .count
   pub is : to q ≡ o
 
--- The operations of `part` are some of those of h, in numbers and values of their own: all operations of some values, and
--- some empty removes.
+-- The operations of `part` are some of those of h, in numbers and values of their own: all operations of some values, and any of
+-- those without a value (empty removes, initial reads, what has no kind).
 pub record Part (h part : History) : Type 0 where
   -- the operation of h that one of the part is
   pub to : ℕ → ℕ

@@ -9,7 +9,6 @@ use Rattle.record.specs.declared.record.Event.the-variants.{CallAdd, CallRemove
 use Rattle.history.specs.Object.{Object, Queue}
 use Rattle.history.specs.History.{History}
 use Rattle.history.specs.Runs.{Row}
-use Rattle.history.specs.Sheet.{orderVerdict}
 use Rattle.violations.specs.Verdict.{FirstViolation, JudgedLinearization, Verdict}
 use Rattle.violations.specs.Fates.{taking, Settled}
 
@@ -153,13 +152,15 @@ pub data Settling : Type 0 where
 
 -- What it says is right: the verdict is this one, with this fate.
 abbrev pub Settles : History → Settling → Type 0
-Settles h (leaves-out (linearization listed)) = Verdict Queue h orderVerdict listed
+Settles h (leaves-out (linearization listed)) = JudgedLinearization Queue h listed
 Settles h (leaves-out (violation number listed)) = Verdict Queue h number listed
 Settles h (lets-take o a listed) = Settled Queue h (taking h o a) × JudgedLinearization Queue (taking h o a) listed
 
--- All of them end with a return, so that no call stands at the last position, and the remove may come back there.
+-- All but the first end with a return, so that no call stands at the last position, and the remove may come back there.
 abbrev pub openRuns : List (Row Settling)
 openRuns =
+    -- R(: order, k = 0
+    record { run = (0, CallRemove) ∷ []; says = leaves-out (linearization []) } ∷
     -- Ra( A0( A0): the value 0 was not removed, though the entry of the remove that does not return is 0 too; order 1
     record { run = (0, CallRemove) ∷ (1, CallAdd 0) ∷ (1, ReturnAdd) ∷ []; says = leaves-out (linearization (1 ∷ [])) } ∷
     -- Ra( A0( A1( A1): nor is the open add of 0 listed; order 2

@@ -47,6 +47,6 @@ pub record Queued (h : History) (reach gap : ℕ → ℕ) (order queue : List �
 -- How the search stands: the operations of `order` are placed, and the adds of `queue` are in the queue.
 pub record Searched (h : History) (reach gap : ℕ → ℕ) (order queue : List ℕ) : Type 0 where
   pub begun : Begun h order
-  -- what can be run on the queue can be run behind the order
+  -- what can be run on the queue can be run after the order
   pub runs : (more : List ℕ) → Fifo h more (map (h .value) queue) → Fifo h (order ++ more) []
   pub queued : Queued h reach gap order queue

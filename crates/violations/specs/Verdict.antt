@@ -23,7 +23,7 @@ pub record FirstViolation (object : Object) (h : History) (number : ℕ) (listed
   pub lowest-list : (other : List ℕ) → Occurs object h number other → Lower other listed → ⊥
 
 -- A legal order as the judge lists it: "The judge lists an open add exactly if its value was removed", and "an open write ..
--- exactly if its value was read" (change 5). What has not returned otherwise is left out.
+-- exactly if its value was read" (change 5). Everything else that has not returned is left out.
 pub record JudgedLinearization (object : Object) (h : History) (order : List ℕ) : Type 0 where
   pub legal : Linearization object h order
   pub pending : (a : ℕ) → Is h add a → (Returned h a → ⊥) → Listed order a ↔ Removed h a

@@ -1,4 +1,4 @@
--- `add_value` meets its contract: an operation of which nothing is known has no value, nor has an empty remove, and any other operation's is put
+-- `add_value` meets its contract: what has no kind has no value, nor has an empty remove, and any other operation's is put
 -- behind the others.
 use borrow.Author.Needs.{needs}
 use Rattle.projection.proofs.excerpt.add_value.Statement.{statement}

@@ -1,4 +1,4 @@
--- `keeps` meets its contract: an operation of which nothing is known is not kept, an empty remove is looked up by its number, any other operation
+-- `keeps` meets its contract: what has no kind is not kept, an empty remove is looked up by its number, any other operation
 -- by its value.
 use borrow.Author.Needs.{needs}
 use Rattle.projection.proofs.keep.keeps.Statement.{statement}
