@@ -35,6 +35,7 @@ pub data Fate : Object → History → History → Type 0 where
 abbrev pub Succeeds : History → Type 0
 Succeeds h = (order : List ℕ) × CompleteLinearization h order
 
+-- No fate succeeds.
 abbrev pub NoneSucceeds : Object → History → Type 0
 NoneSucceeds object h = (fate : History) → Fate object h fate → Succeeds fate → ⊥
 
