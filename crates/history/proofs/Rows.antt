@@ -40,13 +40,19 @@ unfoldable pub reading : {A : Type 0} → Row A → Reading
 unfolding recordsFrom encode encodeAll bytesOf bigEndian lengthOf eventOf decodeAt ofOthers pendingCalls pendingKind earliestRemove addedValues isIn eventFault fault scan readPartial
 reading row = readLog (encodeLog (recordsOf (row .run)))
 
--- a table holds if the logs of its runs are read as their records and what its rows say is decided to be right
+-- a table is correct if what its rows say is decided to be right
+pub rows-correct : {A : Type 0} {Right : History → A → Type 0} (right? : (h : History) (says : A) → Dec (Right h says)) (rows : List (Row A))
+    → decide (each? (λ row. right? (history row) (row .says)) rows) ≡ true → Each (Correct Right) rows
+unfolding history
+rows-correct right? rows right = decide-iff (each? (λ row. right? (history row) (row .says)) rows) .0 right
+
+-- it holds if the logs of its runs are read as their records, too
 pub rows-hold : {A : Type 0} {Right : History → A → Type 0} (right? : (h : History) (says : A) → Dec (Right h says)) (rows : List (Row A))
     → map reading rows ≡ map (λ row. readable (recordsOf (row .run))) rows → decide (each? (λ row. right? (history row) (row .says)) rows) ≡ true → Each (Holds Right) rows
-unfolding history reading
-rows-hold {A} {Right} right? rows read right = go rows read (decide-iff (each? (λ row. right? (history row) (row .says)) rows) .0 right)
+unfolding reading
+rows-hold {A} {Right} right? rows read right = go rows read (rows-correct right? rows right)
   where
-    go : (rows : List (Row A)) → map reading rows ≡ map (λ row. readable (recordsOf (row .run))) rows → Each (λ row. Right (history row) (row .says)) rows → Each (Holds Right) rows
+    go : (rows : List (Row A)) → map reading rows ≡ map (λ row. readable (recordsOf (row .run))) rows → Each (Correct Right) rows → Each (Holds Right) rows
     go [] read right = tt
     go (row ∷ rows) read right = (record { read = cc; right = right .0 }, go rows (cc) (right .1))
 
@@ -57,16 +63,6 @@ linearizations-hold = rows-hold (all-legal? Queue) linearizations refl refl
 pub no-linearizations-hold : Each (Holds (NoneLegal Queue)) noLinearizations
 unfolding decide each? none-legal? history reading
 no-linearizations-hold = rows-hold (none-legal? Queue) noLinearizations refl refl
-
--- the same without reading a log
-pub rows-correct : {A : Type 0} {Right : History → A → Type 0} (right? : (h : History) (says : A) → Dec (Right h says)) (rows : List (Row A))
-    → decide (each? (λ row. right? (history row) (row .says)) rows) ≡ true → Each (Correct Right) rows
-unfolding history
-rows-correct {A} {Right} right? rows right = go rows (decide-iff (each? (λ row. right? (history row) (row .says)) rows) .0 right)
-  where
-    go : (rows : List (Row A)) → Each (λ row. Right (history row) (row .says)) rows → Each (Correct Right) rows
-    go [] right = tt
-    go (row ∷ rows) right = (record { right = right .0 }, go rows (right .1))
 
 pub open-linearizations-correct : Each (Correct (AllLegal Queue)) openLinearizations
 unfolding decide each? all-legal? history

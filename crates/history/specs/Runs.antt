@@ -12,7 +12,7 @@ use Rattle.record.specs.declared.record.Record.{Record}
 use Rattle.reader.specs.Log.{readable, readLog, encodeLog}
 use Rattle.history.specs.Each.{Each}
 use Rattle.history.specs.History.{History}
-use Rattle.history.specs.Object.{Object, Cell}
+use Rattle.history.specs.Object.{Object}
 use Rattle.history.specs.Linearization.{Linearization}
 use Rattle.history.specs.Operations.{historyOf}
 
@@ -33,15 +33,15 @@ pub record Row (A : Type 0) : Type 0 where
   pub run : Run
   pub says : A
 
--- The log of the row's run is read as the run's records, and what the row says is right for their history.
+-- What the row says is right for the history of its run's records. (No log is read yet as one of a cell, or with a remove that does
+-- not return.)
+abbrev pub Correct : {A : Type 0} → (History → A → Type 0) → Row A → Type 0
+Correct Right row = Right (historyOf (recordsOf (row .run))) (row .says)
+
+-- It is, and the log of the run is read as those records.
 pub record Holds {A : Type 0} (Right : History → A → Type 0) (row : Row A) : Type 0 where
   pub read : readLog (encodeLog (recordsOf (row .run))) ≡ readable (recordsOf (row .run))
-  pub right : Right (historyOf (recordsOf (row .run))) (row .says)
-
--- What the row says is right for the history of the run's records. (No log is read yet as one of a cell, or with a remove that does
--- not return.)
-pub record Correct {A : Type 0} (Right : History → A → Type 0) (row : Row A) : Type 0 where
-  pub right : Right (historyOf (recordsOf (row .run))) (row .says)
+  pub right : Correct Right row
 
 -- All of the lists are legal orders of a history.
 abbrev pub AllLegal : Object → History → List (List ℕ) → Type 0
@@ -86,7 +86,9 @@ openLinearizations =
     record { run = (0, CallAdd 7) ∷ (1, CallRemove) ∷ []; says = [] ∷ (0 ∷ []) ∷ (1 ∷ []) ∷ (0 ∷ 1 ∷ []) ∷ (1 ∷ 0 ∷ []) ∷ [] } ∷
     -- A1( A1) A2( A2) Ra( R( R2): Ra takes 1
     record {
-      run = (0, CallAdd 1) ∷ (0, ReturnAdd) ∷ (1, CallAdd 2) ∷ (1, ReturnAdd) ∷ (2, CallRemove) ∷ (3, CallRemove) ∷ (3, ReturnRemove (Value 2)) ∷ [];
+      run =
+          (0, CallAdd 1) ∷ (0, ReturnAdd) ∷ (1, CallAdd 2) ∷ (1, ReturnAdd) ∷
+          (2, CallRemove) ∷ (3, CallRemove) ∷ (3, ReturnRemove (Value 2)) ∷ [];
       says = (0 ∷ 1 ∷ 2 ∷ 3 ∷ []) ∷ [];
     } ∷
     []
@@ -97,18 +99,26 @@ noOpenLinearizations =
     record { run = (0, CallAdd 7) ∷ (0, ReturnAdd) ∷ (1, CallRemove) ∷ []; says = (0 ∷ 1 ∷ 1 ∷ []) ∷ (1 ∷ 0 ∷ []) ∷ [] } ∷
     -- A1( A1) A2( A2) Ra( R( R2): 1 is at the front if Ra is left out; if it comes last, too
     record {
-      run = (0, CallAdd 1) ∷ (0, ReturnAdd) ∷ (1, CallAdd 2) ∷ (1, ReturnAdd) ∷ (2, CallRemove) ∷ (3, CallRemove) ∷ (3, ReturnRemove (Value 2)) ∷ [];
+      run =
+          (0, CallAdd 1) ∷ (0, ReturnAdd) ∷ (1, CallAdd 2) ∷ (1, ReturnAdd) ∷
+          (2, CallRemove) ∷ (3, CallRemove) ∷ (3, ReturnRemove (Value 2)) ∷ [];
       says = (0 ∷ 1 ∷ 3 ∷ []) ∷ (0 ∷ 1 ∷ 3 ∷ 2 ∷ []) ∷ [];
     } ∷
     -- A7( A7) Ra( R( R7): where Ra comes before R it takes 7, which R cannot take then
-    record { run = (0, CallAdd 7) ∷ (0, ReturnAdd) ∷ (1, CallRemove) ∷ (2, CallRemove) ∷ (2, ReturnRemove (Value 7)) ∷ []; says = (0 ∷ 1 ∷ 2 ∷ []) ∷ [] } ∷
+    record {
+      run = (0, CallAdd 7) ∷ (0, ReturnAdd) ∷ (1, CallRemove) ∷ (2, CallRemove) ∷ (2, ReturnRemove (Value 7)) ∷ [];
+      says = (0 ∷ 1 ∷ 2 ∷ []) ∷ [];
+    } ∷
     []
 
 -- Of a cell: W7( and W7) call and return a write, R( and R7) or R-) a read.
 abbrev pub cellLinearizations : List (Row (List (List ℕ)))
 cellLinearizations =
     -- W7( Ra( Ra7) Rb( Rb7): two reads of one value, whose write does not return
-    record { run = (0, CallAdd 7) ∷ (1, CallRemove) ∷ (1, ReturnRemove (Value 7)) ∷ (2, CallRemove) ∷ (2, ReturnRemove (Value 7)) ∷ []; says = (0 ∷ 1 ∷ 2 ∷ []) ∷ [] } ∷
+    record {
+      run = (0, CallAdd 7) ∷ (1, CallRemove) ∷ (1, ReturnRemove (Value 7)) ∷ (2, CallRemove) ∷ (2, ReturnRemove (Value 7)) ∷ [];
+      says = (0 ∷ 1 ∷ 2 ∷ []) ∷ [];
+    } ∷
     -- W1( R( R-) W1): the read comes first
     record { run = (0, CallAdd 1) ∷ (1, CallRemove) ∷ (1, ReturnRemove Empty) ∷ (0, ReturnAdd) ∷ []; says = (1 ∷ 0 ∷ []) ∷ [] } ∷
     -- W1(: an open write may be left out or listed
@@ -120,9 +130,17 @@ cellLinearizations =
 abbrev pub noCellLinearizations : List (Row (List (List ℕ)))
 noCellLinearizations =
     -- W1( W2( W1) W2) R( R1): the latest write is 2
-    record { run = (0, CallAdd 1) ∷ (1, CallAdd 2) ∷ (0, ReturnAdd) ∷ (1, ReturnAdd) ∷ (2, CallRemove) ∷ (2, ReturnRemove (Value 1)) ∷ []; says = (0 ∷ 1 ∷ 2 ∷ []) ∷ [] } ∷
+    record {
+      run =
+          (0, CallAdd 1) ∷ (1, CallAdd 2) ∷ (0, ReturnAdd) ∷
+          (1, ReturnAdd) ∷ (2, CallRemove) ∷ (2, ReturnRemove (Value 1)) ∷ [];
+      says = (0 ∷ 1 ∷ 2 ∷ []) ∷ [];
+    } ∷
     -- W1( R( R-): 1 is written before; the open write is listed twice
-    record { run = (0, CallAdd 1) ∷ (1, CallRemove) ∷ (1, ReturnRemove Empty) ∷ []; says = (0 ∷ 1 ∷ []) ∷ (1 ∷ 0 ∷ 0 ∷ []) ∷ [] } ∷
+    record {
+      run = (0, CallAdd 1) ∷ (1, CallRemove) ∷ (1, ReturnRemove Empty) ∷ [];
+      says = (0 ∷ 1 ∷ []) ∷ (1 ∷ 0 ∷ 0 ∷ []) ∷ [];
+    } ∷
     -- R( W0( R0): nothing is written yet, not even 0
     record { run = (0, CallRemove) ∷ (1, CallAdd 0) ∷ (0, ReturnRemove (Value 0)) ∷ []; says = (0 ∷ 1 ∷ []) ∷ (0 ∷ []) ∷ [] } ∷
     -- R(: a read that does not return is in no order

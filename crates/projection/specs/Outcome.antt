@@ -34,11 +34,13 @@ narrowLeaves (refused number index) values out = out
 narrowLeaves (readable records) values out = written (encodeLog (narrowed records values)) out
 
 -- the excerpt of a log: the log's refusal; 23 if no pattern occurs; or the excerpt of the first pattern is written
-abbrev pub excerptAnswerOf : (records : List Record) → SomeViolation Queue (historyOf records) ⊎ NoViolation Queue (historyOf records) → List ℕ → Projected
+abbrev pub excerptAnswerOf : (records : List Record)
+    → SomeViolation Queue (historyOf records) ⊎ NoViolation Queue (historyOf records) → List ℕ → Projected
 excerptAnswerOf records (inl (number, listed, first)) out = writing (encodeLog (excerpted records listed)) out
 excerptAnswerOf records (inr clean) out = Refused noPattern 0
 
-abbrev pub excerptLeavesOf : (records : List Record) → SomeViolation Queue (historyOf records) ⊎ NoViolation Queue (historyOf records) → List ℕ → List ℕ
+abbrev pub excerptLeavesOf : (records : List Record)
+    → SomeViolation Queue (historyOf records) ⊎ NoViolation Queue (historyOf records) → List ℕ → List ℕ
 excerptLeavesOf records (inl (number, listed, first)) out = written (encodeLog (excerpted records listed)) out
 excerptLeavesOf records (inr clean) out = out
 

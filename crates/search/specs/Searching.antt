@@ -68,7 +68,8 @@ pub record Stands (h : History) (reach limit : List ℕ) (s : Stand) (waiting qu
   pub waits : Waits h (orderIn s list) (s .next) (waitingIn s waiting)
   pub placed-below : (o : ℕ) → Listed (orderIn s list) o → o < s .next
   -- always the lowest operation was placed that may be placed: if the search goes on so, it has gone so from its start
-  pub built : HaveGaps h limit → (more : List ℕ) → Continues h (Serves h (reachAt reach) (gapAt limit)) (orderIn s list) (queueIn s queue) more
+  pub built : HaveGaps h limit → (more : List ℕ)
+      → Continues h (Serves h (reachAt reach) (gapAt limit)) (orderIn s list) (queueIn s queue) more
       → Continues h (Serves h (reachAt reach) (gapAt limit)) [] [] (orderIn s list ++ more)
 
 -- x is the least of `base` and what f makes of the numbers in a list

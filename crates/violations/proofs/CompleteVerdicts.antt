@@ -13,7 +13,7 @@ use Rattle.violations.specs.Fates.{Succeeds}
 use Rattle.violations.proofs.Lowest.{Compared, lower-total}
 use Rattle.violations.proofs.Judged.{judged-complete}
 use Rattle.violations.proofs.Occurrences.{occurs-some}
-use Rattle.violations.proofs.FirstViolations.{SomeViolation, first-violation, first-violation-one}
+use Rattle.violations.proofs.FirstViolations.{SomeViolation, first-violation}
 use Rattle.violations.proofs.Excluding.{excluded}
 use Rattle.violations.proofs.Finding.{found-exists}
 use Rattle.violations.proofs.QueueLowest.{found-lowest}
@@ -62,15 +62,6 @@ complete-verdict object {h} lawful = go (first-violation object h)
     go : SomeViolation object h ⊎ NoViolation object h → (byte : ℕ) × (listed : List ℕ) × CompleteVerdict object h byte listed
     go (inl (n, listed, first)) = (n, listed, CompleteVerdict.violation first)
     go (inr clean) = let (order, lowest) = lowest-exists object lawful clean in (orderVerdict, order, CompleteVerdict.linearization (lowest .judged))
-
--- It has only one: two verdicts agree in the verdict byte and, with a pattern, in the operations that they list.
-pub complete-verdict-one : {object : Object} {h : History} → Lawful h → {m n : ℕ} {xs ys : List ℕ} → CompleteVerdict object h m xs
-    → CompleteVerdict object h n ys
-    → (m ≡ n) × ((m ≡ orderVerdict → ⊥) → xs ≡ ys)
-complete-verdict-one lawful (CompleteVerdict.linearization x) (CompleteVerdict.linearization y) = (refl, λ violation. absurd (violation refl))
-complete-verdict-one {object} lawful (CompleteVerdict.linearization x) (CompleteVerdict.violation y) = absurd (judged-excluded object lawful x (y .occurs))
-complete-verdict-one {object} lawful (CompleteVerdict.violation x) (CompleteVerdict.linearization y) = absurd (judged-excluded object lawful y (x .occurs))
-complete-verdict-one lawful (CompleteVerdict.violation x) (CompleteVerdict.violation y) = let (number, list) = first-violation-one x y in (number, λ violation. list)
 
 -- The verdict byte 0 is that of an order, and any other that of a pattern.
 pub complete-zero : {object : Object} {h : History} {byte : ℕ} {listed : List ℕ} → CompleteVerdict object h byte listed → byte ≡ orderVerdict

@@ -75,7 +75,7 @@ pub use Rattle.violations.proofs.Verdicts.{verdict, verdict-one, settle
 pub use Rattle.violations.proofs.Verdicts.{verdict-legal, verdict-exactly, pattern-of, alike-verdict}
 -- If no remove of a queue is pending, a verdict is one on the history as it stands; of a cell every verdict is.
 pub use Rattle.violations.proofs.Verdicts.{returned-lone, complete-is-verdict, verdict-is-complete}
-pub use Rattle.violations.proofs.CompleteVerdicts.{complete-verdict-one, complete-zero, complete-pattern}
+pub use Rattle.violations.proofs.CompleteVerdicts.{complete-zero, complete-pattern}
 
 -- A legal order of a cell exists exactly if no pattern occurs. Of its reads any number may be pending: nothing is asked of them.
 pub cell-exactly : {h : History} → Lawful h → ((order : List ℕ) × Linearization Cell h order) ↔ NoViolation Cell h
@@ -89,14 +89,12 @@ pub cell-verdict-exactly : {h : History} → Lawful h → {byte : ℕ} {listed :
 cell-verdict-exactly lawful v = verdict-exactly Cell lawful tt v
 
 -- A part in which nothing has a fate and that keeps all that the first pattern lists has the same verdict byte.
-pub part-verdict : (object : Object) {h part : History} (p : Part h part) → Lawful h → Lawful part → Unfated object part → {m n : ℕ} {xs ys : List ℕ}
-    → FirstViolation object h m xs → Each (Kept p) xs
-    → Verdict object part n ys → m ≡ n
+pub part-verdict : (object : Object) {h part : History} (p : Part h part) → Lawful h → Lawful part → Unfated object part
+    → {m n : ℕ} {xs ys : List ℕ} → FirstViolation object h m xs → Each (Kept p) xs → Verdict object part n ys → m ≡ n
 part-verdict object p lawful lawful' unfated first kept v = parts.part-verdict p lawful lawful' first kept (verdict-is-complete object unfated v)
 
-pub cell-part-verdict : {h part : History} (p : Part h part) → Lawful h → Lawful part → {m n : ℕ} {xs ys : List ℕ} → FirstViolation Cell h m xs
-    → Each (Kept p) xs
-    → Verdict Cell part n ys → m ≡ n
+pub cell-part-verdict : {h part : History} (p : Part h part) → Lawful h → Lawful part
+    → {m n : ℕ} {xs ys : List ℕ} → FirstViolation Cell h m xs → Each (Kept p) xs → Verdict Cell part n ys → m ≡ n
 cell-part-verdict p lawful lawful' first kept v = part-verdict Cell p lawful lawful' tt first kept v
 
 -- Of a queue's history in which no remove is pending: the verdict byte 0 is that of an order as the judge lists it,
@@ -116,9 +114,8 @@ found-verdict {h} lawful returned = go (first-violation Queue h)
         (orderVerdict, order, complete-is-verdict Queue returned (CompleteVerdict.linearization judged), λ e. found)
 
 -- and two verdicts list the same operations, if an order is the one that the search finds.
-pub listed-one : {h : History} → Lawful h → RemovesReturned h → {m n : ℕ} {xs ys : List ℕ} → Verdict Queue h m xs → (m ≡ orderVerdict → Found h xs)
-    → Verdict Queue h n ys → (n ≡ orderVerdict → Found h ys)
-    → xs ≡ ys
+pub listed-one : {h : History} → Lawful h → RemovesReturned h → {m n : ℕ} {xs ys : List ℕ}
+    → Verdict Queue h m xs → (m ≡ orderVerdict → Found h xs) → Verdict Queue h n ys → (n ≡ orderVerdict → Found h ys) → xs ≡ ys
 listed-one {h} lawful returned {m} {n} {xs} {ys} v found w found' = go (verdict-one lawful v w) (ℕ-discrete m orderVerdict)
   where
     single : m ≡ orderVerdict → Single h

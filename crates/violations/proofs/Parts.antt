@@ -107,9 +107,8 @@ part-keeps p laws part-laws (stale x) keep = part-violations p 10 (λ e. omega a
 
 -- A part that keeps all that the first pattern of the history lists has the same verdict byte: that pattern occurs in it, and no
 -- lower one does, since it would occur in the history. (It would not be 6: of a queue that is the highest.)
-pub part-verdict : {object : Object} {h part : History} (p : Part h part) → Lawful h → Lawful part → {m n : ℕ} {xs ys : List ℕ}
-    → FirstViolation object h m xs → Each (Kept p) xs
-    → CompleteVerdict object part n ys → m ≡ n
+pub part-verdict : {object : Object} {h part : History} (p : Part h part) → Lawful h → Lawful part
+    → {m n : ℕ} {xs ys : List ℕ} → FirstViolation object h m xs → Each (Kept p) xs → CompleteVerdict object part n ys → m ≡ n
 part-verdict {object} p laws part-laws x keep (CompleteVerdict.linearization y) =
     absurd (judged-excluded object part-laws y (part-keeps p laws part-laws (x .occurs) keep .1))
 part-verdict {object} {h} {part} p laws part-laws {m} {n} {ys = ys} x keep (CompleteVerdict.violation y) =

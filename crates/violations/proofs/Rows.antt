@@ -122,5 +122,5 @@ computed-settles h (lets-take o a listed) ((lawful, lone), (c, ((n, pattern, fir
 pub open-runs-correct : Each (Correct Settles) openRuns
 unfolding decide each? computed? history
 open-runs-correct =
-    each-map {P = Correct Computed} {Q = Correct Settles} (λ row c. record { right = computed-settles _ (row .says) (c .right) }) openRuns
+    each-map {P = Correct Computed} {Q = Correct Settles} (λ row. computed-settles _ (row .says)) openRuns
     (rows-correct computed? openRuns refl)

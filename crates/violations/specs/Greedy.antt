@@ -28,7 +28,8 @@ pub record Enabled (h : History) (order : List ℕ) (o : ℕ) : Type 0 where
 
 -- An operation that may be placed next. `Serves order o s s'` says that o may be placed after the operations of `order`, as
 -- far as the queue or the cell is concerned, and makes s' of its state s.
-pub record Placeable {S : Type 0} (h : History) (Serves : List ℕ → ℕ → S → S → Type 0) (order : List ℕ) (s : S) (o : ℕ) (s' : S) : Type 0 where
+pub record Placeable {S : Type 0} (h : History) (Serves : List ℕ → ℕ → S → S → Type 0)
+    (order : List ℕ) (s : S) (o : ℕ) (s' : S) : Type 0 where
   pub enabled : Enabled h order o
   pub serves : Serves order o s s'
 
@@ -36,8 +37,11 @@ pub record Placeable {S : Type 0} (h : History) (Serves : List ℕ → ℕ → S
 -- nothing is left.
 pub data Continues {S : Type 0} (h : History) (Serves : List ℕ → ℕ → S → S → Type 0) : List ℕ → S → List ℕ → Type 0 where
   ends : {order : List ℕ} {s : S} → ((o : ℕ) → Left h order o → ⊥) → Continues h Serves order s []
-  places : {order more : List ℕ} {s s' : S} {o : ℕ} → Placeable h Serves order s o s' → ((p : ℕ) (other : S) → p < o → Placeable h Serves order s p other → ⊥)
-      → Continues h Serves (order ++ (o ∷ [])) s' more → Continues h Serves order s (o ∷ more)
+  places : {order more : List ℕ} {s s' : S} {o : ℕ}
+      → Placeable h Serves order s o s'
+      → ((p : ℕ) (other : S) → p < o → Placeable h Serves order s p other → ⊥)
+      → Continues h Serves (order ++ (o ∷ [])) s' more
+      → Continues h Serves order s (o ∷ more)
 
 -- What is placed so far is the beginning of an order as the judge lists it. (This is for the theory of the search alone.)
 pub record Begun (h : History) (order : List ℕ) : Type 0 where

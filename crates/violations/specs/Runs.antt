@@ -92,39 +92,62 @@ cellRuns =
     -- R( R9): 7, 0
     record { run = (0, CallRemove) ∷ (0, ReturnRemove (Value 9)) ∷ []; says = violation 7 (0 ∷ []) } ∷
     -- R( R7) W7( W7): 8, 0 1
-    record { run = (0, CallRemove) ∷ (0, ReturnRemove (Value 7)) ∷ (1, CallAdd 7) ∷ (1, ReturnAdd) ∷ []; says = violation 8 (0 ∷ 1 ∷ []) } ∷
+    record {
+      run = (0, CallRemove) ∷ (0, ReturnRemove (Value 7)) ∷ (1, CallAdd 7) ∷ (1, ReturnAdd) ∷ [];
+      says = violation 8 (0 ∷ 1 ∷ []);
+    } ∷
     -- W1( W1) W2( W2) R( R1): 9, 0 1 1 2
-    record { run = (0, CallAdd 1) ∷ (0, ReturnAdd) ∷ (1, CallAdd 2) ∷ (1, ReturnAdd) ∷ (2, CallRemove) ∷ (2, ReturnRemove (Value 1)) ∷ []; says = violation 9 (0 ∷ 1 ∷ 1 ∷ 2 ∷ []) } ∷
+    record {
+      run =
+          (0, CallAdd 1) ∷ (0, ReturnAdd) ∷ (1, CallAdd 2) ∷
+          (1, ReturnAdd) ∷ (2, CallRemove) ∷ (2, ReturnRemove (Value 1)) ∷ [];
+      says = violation 9 (0 ∷ 1 ∷ 1 ∷ 2 ∷ []);
+    } ∷
     -- W1( W2( W1) W2) Ra( Ra1) Rb( Rb2): 9, 0 3 1 2
     record {
-      run = (0, CallAdd 1) ∷ (1, CallAdd 2) ∷ (0, ReturnAdd) ∷ (1, ReturnAdd) ∷ (2, CallRemove) ∷ (2, ReturnRemove (Value 1)) ∷ (3, CallRemove) ∷ (3, ReturnRemove (Value 2)) ∷ [];
+      run =
+          (0, CallAdd 1) ∷ (1, CallAdd 2) ∷ (0, ReturnAdd) ∷ (1, ReturnAdd) ∷ (2, CallRemove) ∷
+          (2, ReturnRemove (Value 1)) ∷ (3, CallRemove) ∷ (3, ReturnRemove (Value 2)) ∷ [];
       says = violation 9 (0 ∷ 3 ∷ 1 ∷ 2 ∷ []);
     } ∷
     -- W1( R( R1) W2( W2) Rb( Rb1): 9, 1 2 2 3; the open write precedes nothing
     record {
-      run = (0, CallAdd 1) ∷ (1, CallRemove) ∷ (1, ReturnRemove (Value 1)) ∷ (2, CallAdd 2) ∷ (2, ReturnAdd) ∷ (3, CallRemove) ∷ (3, ReturnRemove (Value 1)) ∷ [];
+      run =
+          (0, CallAdd 1) ∷ (1, CallRemove) ∷ (1, ReturnRemove (Value 1)) ∷
+          (2, CallAdd 2) ∷ (2, ReturnAdd) ∷ (3, CallRemove) ∷ (3, ReturnRemove (Value 1)) ∷ [];
       says = violation 9 (1 ∷ 2 ∷ 2 ∷ 3 ∷ []);
     } ∷
     -- W1( W1) R( R-): 10, 0 1
-    record { run = (0, CallAdd 1) ∷ (0, ReturnAdd) ∷ (1, CallRemove) ∷ (1, ReturnRemove Empty) ∷ []; says = violation 10 (0 ∷ 1 ∷ []) } ∷
+    record {
+      run = (0, CallAdd 1) ∷ (0, ReturnAdd) ∷ (1, CallRemove) ∷ (1, ReturnRemove Empty) ∷ [];
+      says = violation 10 (0 ∷ 1 ∷ []);
+    } ∷
     -- Ra( Ra-) W1( W1) Rb( Rb-) Rc( Rc-): 10, 1 2
     record {
-      run = (0, CallRemove) ∷ (0, ReturnRemove Empty) ∷ (1, CallAdd 1) ∷ (1, ReturnAdd) ∷ (2, CallRemove) ∷ (2, ReturnRemove Empty) ∷ (3, CallRemove) ∷ (3, ReturnRemove Empty) ∷ [];
+      run =
+          (0, CallRemove) ∷ (0, ReturnRemove Empty) ∷ (1, CallAdd 1) ∷ (1, ReturnAdd) ∷
+          (2, CallRemove) ∷ (2, ReturnRemove Empty) ∷ (3, CallRemove) ∷ (3, ReturnRemove Empty) ∷ [];
       says = violation 10 (1 ∷ 2 ∷ []);
     } ∷
     -- Ra( W7( Ra7) W7) Rb( Rb-): a read may be called before the write of its value, 10, 0 2
     record {
-      run = (0, CallRemove) ∷ (1, CallAdd 7) ∷ (0, ReturnRemove (Value 7)) ∷ (1, ReturnAdd) ∷ (2, CallRemove) ∷ (2, ReturnRemove Empty) ∷ [];
+      run =
+          (0, CallRemove) ∷ (1, CallAdd 7) ∷ (0, ReturnRemove (Value 7)) ∷
+          (1, ReturnAdd) ∷ (2, CallRemove) ∷ (2, ReturnRemove Empty) ∷ [];
       says = violation 10 (0 ∷ 2 ∷ []);
     } ∷
     -- W1( Ra( Ra-) W1) Rb( Rb-): an initial read may be called after a write that has not returned, 10, 0 2
     record {
-      run = (0, CallAdd 1) ∷ (1, CallRemove) ∷ (1, ReturnRemove Empty) ∷ (0, ReturnAdd) ∷ (2, CallRemove) ∷ (2, ReturnRemove Empty) ∷ [];
+      run =
+          (0, CallAdd 1) ∷ (1, CallRemove) ∷ (1, ReturnRemove Empty) ∷
+          (0, ReturnAdd) ∷ (2, CallRemove) ∷ (2, ReturnRemove Empty) ∷ [];
       says = violation 10 (0 ∷ 2 ∷ []);
     } ∷
     -- W1( W1) Ra( Ra1) Rb( Rb-): the operations on one value do not cross, 10, 0 2
     record {
-      run = (0, CallAdd 1) ∷ (0, ReturnAdd) ∷ (1, CallRemove) ∷ (1, ReturnRemove (Value 1)) ∷ (2, CallRemove) ∷ (2, ReturnRemove Empty) ∷ [];
+      run =
+          (0, CallAdd 1) ∷ (0, ReturnAdd) ∷ (1, CallRemove) ∷
+          (1, ReturnRemove (Value 1)) ∷ (2, CallRemove) ∷ (2, ReturnRemove Empty) ∷ [];
       says = violation 10 (0 ∷ 2 ∷ []);
     } ∷
     -- W1( R( R1): order 0 1; the value of the open write was read
@@ -132,16 +155,26 @@ cellRuns =
     -- W1( R( R-): order 1
     record { run = (0, CallAdd 1) ∷ (1, CallRemove) ∷ (1, ReturnRemove Empty) ∷ []; says = linearization (1 ∷ []) } ∷
     -- W1( W2( W1) W2) R( R1): order 1 0 2
-    record { run = (0, CallAdd 1) ∷ (1, CallAdd 2) ∷ (0, ReturnAdd) ∷ (1, ReturnAdd) ∷ (2, CallRemove) ∷ (2, ReturnRemove (Value 1)) ∷ []; says = linearization (1 ∷ 0 ∷ 2 ∷ []) } ∷
+    record {
+      run =
+          (0, CallAdd 1) ∷ (1, CallAdd 2) ∷ (0, ReturnAdd) ∷
+          (1, ReturnAdd) ∷ (2, CallRemove) ∷ (2, ReturnRemove (Value 1)) ∷ [];
+      says = linearization (1 ∷ 0 ∷ 2 ∷ []);
+    } ∷
     -- Ra( W1( Rb( Ra1) W1) Rb-): order 2 1 0
     record {
-      run = (0, CallRemove) ∷ (1, CallAdd 1) ∷ (2, CallRemove) ∷ (0, ReturnRemove (Value 1)) ∷ (1, ReturnAdd) ∷ (2, ReturnRemove Empty) ∷ [];
+      run =
+          (0, CallRemove) ∷ (1, CallAdd 1) ∷ (2, CallRemove) ∷
+          (0, ReturnRemove (Value 1)) ∷ (1, ReturnAdd) ∷ (2, ReturnRemove Empty) ∷ [];
       says = linearization (2 ∷ 1 ∷ 0 ∷ []);
     } ∷
     -- Ra( Rb( W0( W0): two reads that do not return, order 2
     record { run = (0, CallRemove) ∷ (1, CallRemove) ∷ (2, CallAdd 0) ∷ (2, ReturnAdd) ∷ []; says = linearization (2 ∷ []) } ∷
     -- Ra( W0( W0) Rb( Rb0): the value 0 is read, though not by the read that does not return, order 1 2
-    record { run = (0, CallRemove) ∷ (1, CallAdd 0) ∷ (1, ReturnAdd) ∷ (2, CallRemove) ∷ (2, ReturnRemove (Value 0)) ∷ []; says = linearization (1 ∷ 2 ∷ []) } ∷
+    record {
+      run = (0, CallRemove) ∷ (1, CallAdd 0) ∷ (1, ReturnAdd) ∷ (2, CallRemove) ∷ (2, ReturnRemove (Value 0)) ∷ [];
+      says = linearization (1 ∷ 2 ∷ []);
+    } ∷
     []
 
 -- What a row says of a run of a queue with a remove that does not return: the verdict with it left out; or, where another fate is
@@ -164,27 +197,41 @@ openRuns =
     -- Ra( A0( A0): the value 0 was not removed, though the entry of the remove that does not return is 0 too; order 1
     record { run = (0, CallRemove) ∷ (1, CallAdd 0) ∷ (1, ReturnAdd) ∷ []; says = leaves-out (linearization (1 ∷ [])) } ∷
     -- Ra( A0( A1( A1): nor is the open add of 0 listed; order 2
-    record { run = (0, CallRemove) ∷ (1, CallAdd 0) ∷ (2, CallAdd 1) ∷ (2, ReturnAdd) ∷ []; says = leaves-out (linearization (2 ∷ [])) } ∷
+    record {
+      run = (0, CallRemove) ∷ (1, CallAdd 0) ∷ (2, CallAdd 1) ∷ (2, ReturnAdd) ∷ [];
+      says = leaves-out (linearization (2 ∷ []));
+    } ∷
     -- A0( Ra( R( R0): order 0 2
-    record { run = (0, CallAdd 0) ∷ (1, CallRemove) ∷ (2, CallRemove) ∷ (2, ReturnRemove (Value 0)) ∷ []; says = leaves-out (linearization (0 ∷ 2 ∷ [])) } ∷
+    record {
+      run = (0, CallAdd 0) ∷ (1, CallRemove) ∷ (2, CallRemove) ∷ (2, ReturnRemove (Value 0)) ∷ [];
+      says = leaves-out (linearization (0 ∷ 2 ∷ []));
+    } ∷
     -- A1( A1) A2( A2) Ra( R( R2): left out it is pattern 4; Ra takes 1, order 0 1 2 3
     record {
-      run = (0, CallAdd 1) ∷ (0, ReturnAdd) ∷ (1, CallAdd 2) ∷ (1, ReturnAdd) ∷ (2, CallRemove) ∷ (3, CallRemove) ∷ (3, ReturnRemove (Value 2)) ∷ [];
+      run =
+          (0, CallAdd 1) ∷ (0, ReturnAdd) ∷ (1, CallAdd 2) ∷ (1, ReturnAdd) ∷
+          (2, CallRemove) ∷ (3, CallRemove) ∷ (3, ReturnRemove (Value 2)) ∷ [];
       says = lets-take 2 0 (0 ∷ 1 ∷ 2 ∷ 3 ∷ []);
     } ∷
     -- A1( A2( A2) A3( A3) Ra( R( R3) A1): Ra takes 2 and not 1, whose add is lower but returns later; order 1 2 3 4 0
     record {
-      run = (0, CallAdd 1) ∷ (1, CallAdd 2) ∷ (1, ReturnAdd) ∷ (2, CallAdd 3) ∷ (2, ReturnAdd) ∷ (3, CallRemove) ∷ (4, CallRemove) ∷ (4, ReturnRemove (Value 3)) ∷ (0, ReturnAdd) ∷ [];
+      run =
+          (0, CallAdd 1) ∷ (1, CallAdd 2) ∷ (1, ReturnAdd) ∷ (2, CallAdd 3) ∷ (2, ReturnAdd) ∷
+          (3, CallRemove) ∷ (4, CallRemove) ∷ (4, ReturnRemove (Value 3)) ∷ (0, ReturnAdd) ∷ [];
       says = lets-take 3 1 (1 ∷ 2 ∷ 3 ∷ 4 ∷ 0 ∷ []);
     } ∷
     -- A1( A1) Ra( Rb( Rb1) A2( A2) R( R-): left out it is pattern 6; 1 is removed, so Ra takes 2; order 0 2 3 1 4
     record {
-      run = (0, CallAdd 1) ∷ (0, ReturnAdd) ∷ (1, CallRemove) ∷ (2, CallRemove) ∷ (2, ReturnRemove (Value 1)) ∷ (3, CallAdd 2) ∷ (3, ReturnAdd) ∷ (4, CallRemove) ∷ (4, ReturnRemove Empty) ∷ [];
+      run =
+          (0, CallAdd 1) ∷ (0, ReturnAdd) ∷ (1, CallRemove) ∷ (2, CallRemove) ∷ (2, ReturnRemove (Value 1)) ∷
+          (3, CallAdd 2) ∷ (3, ReturnAdd) ∷ (4, CallRemove) ∷ (4, ReturnRemove Empty) ∷ [];
       says = lets-take 1 3 (0 ∷ 2 ∷ 3 ∷ 1 ∷ 4 ∷ []);
     } ∷
     -- A1( A1) A2( A2) Ra( R( R-): if Ra takes 1 or 2, R still meets the other; pattern 6, 3 0
     record {
-      run = (0, CallAdd 1) ∷ (0, ReturnAdd) ∷ (1, CallAdd 2) ∷ (1, ReturnAdd) ∷ (2, CallRemove) ∷ (3, CallRemove) ∷ (3, ReturnRemove Empty) ∷ [];
+      run =
+          (0, CallAdd 1) ∷ (0, ReturnAdd) ∷ (1, CallAdd 2) ∷ (1, ReturnAdd) ∷
+          (2, CallRemove) ∷ (3, CallRemove) ∷ (3, ReturnRemove Empty) ∷ [];
       says = leaves-out (violation 6 (3 ∷ 0 ∷ []));
     } ∷
     []

@@ -43,5 +43,7 @@ pub data CompleteVerdict (object : Object) (h : History) : ℕ → List ℕ → 
 -- queue that has not returned is tried left out, then with each fate (Fates.antt). "If none succeeds, the pattern is the one
 -- found with it left out." Where there is no such remove, this is the verdict on the history as it stands.
 pub data Verdict (object : Object) (h : History) : ℕ → List ℕ → Type 0 where
-  linearization : {settled : History} {listed : List ℕ} → Settled object h settled → JudgedLinearization object settled listed → Verdict object h orderVerdict listed
-  violation : {number : ℕ} {listed : List ℕ} → FirstViolation object h number listed → NoneSucceeds object h → Verdict object h number listed
+  linearization : {settled : History} {listed : List ℕ}
+      → Settled object h settled → JudgedLinearization object settled listed → Verdict object h orderVerdict listed
+  violation : {number : ℕ} {listed : List ℕ}
+      → FirstViolation object h number listed → NoneSucceeds object h → Verdict object h number listed
