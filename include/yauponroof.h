@@ -100,8 +100,11 @@
  * - No function reads or writes outside the bytes that are lent to it. An output buffer overlaps no
  *   input, and a session overlaps no buffer.
  * - No function uses the heap or a global variable, or keeps a pointer it was given. Any number of
- *   threads may call at the same time, also on the same bytes, as long as none of them changes
+ *   threads may call at the same time, also on the same bytes, as long as none of them writes to
  *   these.
+ * - yr_begin, yr_feed and yr_close write to the session at every call. A refused call stores the
+ *   values that were there. So while one of these calls runs, no other thread may use the session,
+ *   not even by yr_sheet or yr_session_excerpt, and a session cannot lie on a read-only page.
  */
 
 #ifndef YAUPONROOF_H
@@ -166,7 +169,7 @@ typedef struct yr_session {
 
 /*
  * All refusals. Those from 1 to 11 concern what was handed in, those from 20 on how things stand.
- * A refused call writes nothing, neither to a buffer nor to a session.
+ * A refused call writes to no buffer, and leaves the session as it was.
  *
  *     yr_check                1 to 10
  *     yr_replay               1 to 11

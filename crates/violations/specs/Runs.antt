@@ -1,7 +1,8 @@
 -- Document 01, "Runs". The table `runs` has the runs marked *, in the document's order, with the verdict that it gives for each.
 -- The table `picks` shows what is reported where they leave it open: its first three rows are the document's other runs with
--- a verdict, the rest have several occurrences, ties or open adds. `cellRuns` and `openRuns` are for cells and open removes, of
--- document 02. What a run and a row are is said in the crate history.
+-- a verdict; the next have several occurrences, ties or open adds; in the last three a pattern that is read too widely would be
+-- reported in place of the right one. `cellRuns` and `openRuns` are for cells and open removes, of document 02. What a run and a
+-- row are is said in the crate history.
 use Prim.Native.Nat.{ℕ}
 use mathlib.Core.List.{List, [], _∷_}
 use Rattle.record.specs.declared.record.Removed.the-variants.{Value, Empty}
@@ -84,6 +85,30 @@ picks =
     record { run = (0, CallAdd 1) ∷ (0, ReturnAdd) ∷ (1, CallAdd 2) ∷ (1, ReturnAdd) ∷ (2, CallRemove) ∷ (2, ReturnRemove Empty) ∷ []; says = violation 6 (2 ∷ 0 ∷ []) } ∷
     -- A1( A1) Ra( Ra-) Rb( Rb-): both are false, the lowest empty remove, pattern 6, 1 0
     record { run = (0, CallAdd 1) ∷ (0, ReturnAdd) ∷ (1, CallRemove) ∷ (1, ReturnRemove Empty) ∷ (2, CallRemove) ∷ (2, ReturnRemove Empty) ∷ []; says = violation 6 (1 ∷ 0 ∷ []) } ∷
+    -- A1( A2( A1) A2) Ra( Ra2) Re( Re-): add 0 does not precede add 1, so 4 does not occur; pattern 6, 3 0
+    record {
+      run =
+          (0, CallAdd 1) ∷ (1, CallAdd 2) ∷ (0, ReturnAdd) ∷ (1, ReturnAdd) ∷ (2, CallRemove) ∷
+          (2, ReturnRemove (Value 2)) ∷ (3, CallRemove) ∷ (3, ReturnRemove Empty) ∷ [];
+      says = violation 6 (3 ∷ 0 ∷ []);
+    } ∷
+    -- A1( A1) A2( A2) Ra( Rb( Ra2) Rb1) A3( A3) Re( Re-): remove 2 does not precede remove 3, so 5 does not occur; pattern 6, 5 4
+    record {
+      run =
+          (0, CallAdd 1) ∷ (0, ReturnAdd) ∷ (1, CallAdd 2) ∷ (1, ReturnAdd) ∷ (2, CallRemove) ∷ (3, CallRemove) ∷
+          (2, ReturnRemove (Value 2)) ∷ (3, ReturnRemove (Value 1)) ∷ (4, CallAdd 3) ∷ (4, ReturnAdd) ∷
+          (5, CallRemove) ∷ (5, ReturnRemove Empty) ∷ [];
+      says = violation 6 (5 ∷ 4 ∷ []);
+    } ∷
+    -- A1( A1) Ra( A2( Rb( A2) Rb1) Ra-) R( R2) A3( A3) Re( Re-): 2 covers no gap before its add returns, so the empty remove 1 is
+    -- not false; pattern 6, 6 5
+    record {
+      run =
+          (0, CallAdd 1) ∷ (0, ReturnAdd) ∷ (1, CallRemove) ∷ (2, CallAdd 2) ∷ (3, CallRemove) ∷ (2, ReturnAdd) ∷
+          (3, ReturnRemove (Value 1)) ∷ (1, ReturnRemove Empty) ∷ (4, CallRemove) ∷ (4, ReturnRemove (Value 2)) ∷
+          (5, CallAdd 3) ∷ (5, ReturnAdd) ∷ (6, CallRemove) ∷ (6, ReturnRemove Empty) ∷ [];
+      says = violation 6 (6 ∷ 5 ∷ []);
+    } ∷
     []
 
 -- Runs of a cell: W7( and W7) call and return a write, R( and R7) or R-) a read.
