@@ -18,9 +18,10 @@ use Rattle.history.specs.Operations.{historyOf}
 use Rattle.history.specs.Sheet.{orderVerdict, sheetOf, listedOn}
 use Rattle.history.proofs.Sheets.{sheet-lists}
 use Rattle.violations.specs.Violations.{NoViolation}
+use Rattle.violations.specs.Verdict.{SomeViolation}
 use Rattle.violations.specs.Verdict as violations
 use Rattle.violations.specs.Found.{Found}
-use Rattle.violations.proofs.Laws.{SomeViolation, first-violation, first-violation-one, verdict-known}
+use Rattle.violations.proofs.Laws.{first-violation, first-violation-one, verdict-known}
 use Rattle.judge.specs.Judge.{sheetBytes, Accepted, order, pattern, Judges, judged, turned-down}
 use Rattle.judge.specs.declared.judge.Verdict.{Verdict}
 use Rattle.judge.specs.declared.judge.Verdict.the-variants.{Order}

@@ -15,9 +15,10 @@ use Rattle.history.specs.Operations.{historyOf}
 use Rattle.history.specs.Sheet.{orderVerdict, sheetOf}
 use Rattle.history.proofs.Laws.{history-lawful, history-returned}
 use Rattle.violations.specs.Violations.{NoViolation}
+use Rattle.violations.specs.Verdict.{SomeViolation}
 use Rattle.violations.specs.Verdict as violations
 use Rattle.violations.specs.Found.{Found}
-use Rattle.violations.proofs.Laws.{SomeViolation, first-violation, first-violation-one, occurs-numbered, found-verdict}
+use Rattle.violations.proofs.Laws.{first-violation, first-violation-one, occurs-numbered, found-verdict}
 use Rattle.judge.specs.Judge.{verdictOf, Delivers, Judges, judged}
 use Rattle.judge.specs.declared.judge.Verdict.the-variants.{Pattern}
 use Rattle.projection.specs.Projection.{excerpted}

@@ -14,8 +14,8 @@ use Rattle.history.specs.Operations.{historyOf}
 use Rattle.history.specs.Sheet.{orderVerdict, sheetOf, listedOn}
 use Rattle.history.proofs.Laws.{history-lawful, history-returned}
 use Rattle.violations.specs.Violations.{NoViolation}
-use Rattle.violations.specs.Verdict.{FirstViolation}
-use Rattle.violations.proofs.Laws.{SomeViolation, first-violation, judged-complete, excluded, verdict-one, listed-one, zero-is-linearization, pattern-of}
+use Rattle.violations.specs.Verdict.{FirstViolation, SomeViolation}
+use Rattle.violations.proofs.Laws.{first-violation, judged-complete, excluded, verdict-one, listed-one, zero-is-linearization, pattern-of}
 use Rattle.projection.specs.Projection.{excerpted}
 use Rattle.projection.specs.Outcome.{excerptAnswerOf, excerptAnswer}
 use Rattle.projection.specs.declared.write.Projected.the-variants.{Written}

@@ -9,7 +9,8 @@ use lib.ListN.{length}
 use lib.Dec.{ltb}
 use borrow.Author.Tests.{lt-ltb, le-ltb}
 use Rattle.record.specs.Choice.{if_then_else_}
-use Rattle.reader.proofs.Search.{Lowest, None, lowest}
+use Rattle.reader.specs.Search.{None}
+use Rattle.reader.proofs.Search.{Lowest, lowest}
 use Rattle.history.specs.History.{History}
 use Rattle.history.specs.Linearization.{placed, Ordering}
 

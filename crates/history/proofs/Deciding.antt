@@ -6,7 +6,8 @@ use mathlib.Core.Path.{_≡_}
 use mathlib.Core.Logic.{_⊎_, inl, inr, ⊎-elim, Dec·and, Dec·not}
 use mathlib.Core.List.{List, [], _∷_, _++_}
 use lib.ListN.{length}
-use Rattle.reader.proofs.Search.{Lowest, None, lowest}
+use Rattle.reader.specs.Search.{None}
+use Rattle.reader.proofs.Search.{Lowest, lowest}
 use Rattle.history.specs.History.{History, add, remove, emptyRemove, noKind, Returned, Precedes}
 use Rattle.history.specs.Object.{Object, Queue, Cell}
 use Rattle.history.specs.Register.{Content, initial, holds, Stores, writes, reads, reads-initial}

@@ -9,7 +9,7 @@ use lib.Dec.{eqb}
 use lib.Seq.{sets, length-sets, sets-eq, take-append-seam}
 use Rattle.record.specs.Choice.{if_then_else_}
 use Rattle.reader.specs.Log.{maxRecords}
-use Rattle.reader.proofs.Search.{None}
+use Rattle.reader.specs.Search.{None}
 use Rattle.history.specs.Object.{Queue}
 use Rattle.history.specs.History.{History}
 use Rattle.history.specs.Table.{tabled}

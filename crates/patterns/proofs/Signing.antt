@@ -6,7 +6,7 @@ use native.Mathlib.Decide.{decLt}
 use mathlib.Core.Path.{_≡_, refl, sym, ap, _∙_}
 use mathlib.Core.List.{List, [], _∷_}
 use borrow.Author.Tests.{eq-eqb, ne-eqb}
-use Rattle.reader.proofs.Search.{None}
+use Rattle.reader.specs.Search.{None}
 use Rattle.history.specs.Object.{Queue}
 use Rattle.history.specs.History.{History, add, remove}
 use Rattle.history.specs.Table.{callAt, tabled}

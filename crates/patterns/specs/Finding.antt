@@ -5,7 +5,7 @@ use mathlib.Core.Logic.{_⊎_}
 use mathlib.Core.List.{List}
 use lib.ListN.{length, take}
 use Rattle.reader.specs.Log.{maxRecords}
-use Rattle.reader.proofs.Search.{None}
+use Rattle.reader.specs.Search.{None}
 use Rattle.history.specs.Object.{Queue}
 use Rattle.history.specs.History.{History}
 use Rattle.violations.specs.Violations.{Occurs}

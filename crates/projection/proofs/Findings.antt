@@ -20,8 +20,8 @@ use Rattle.history.specs.Table.{tabled, Agree}
 use Rattle.history.proofs.Agreeing.{agree-sym}
 use Rattle.history.proofs.Laws.{history-lawful}
 use Rattle.violations.specs.Violations.{NoViolation}
-use Rattle.violations.specs.Verdict.{FirstViolation, CompleteVerdict}
-use Rattle.violations.proofs.Laws.{SomeViolation, first-violation, first-violation-one, occurs-known, excluded, judged-complete, complete-zero, complete-pattern, agree-lawful, agree-complete-verdict}
+use Rattle.violations.specs.Verdict.{FirstViolation, SomeViolation, CompleteVerdict}
+use Rattle.violations.proofs.Laws.{first-violation, first-violation-one, occurs-known, excluded, judged-complete, complete-zero, complete-pattern, agree-lawful, agree-complete-verdict}
 use Rattle.matching.specs.Held.{Held}
 use Rattle.judge.specs.Decision.{Decided}
 use Rattle.projection.specs.Projection.{valuesOf, projection, excerpted}

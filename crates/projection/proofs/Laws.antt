@@ -26,9 +26,9 @@ use Rattle.history.proofs.Laws.{history-lawful, history-returned}
 use Rattle.history.proofs.Queues.{returned-complete}
 use Rattle.history.specs.Linearization.{Linearization}
 use Rattle.violations.specs.Violations.{NoViolation}
-use Rattle.violations.specs.Verdict.{FirstViolation, Verdict}
+use Rattle.violations.specs.Verdict.{FirstViolation, SomeViolation, Verdict}
 use Rattle.violations.specs.Parts.{HasValue, Part, Kept}
-use Rattle.violations.proofs.Laws.{SomeViolation, first-violation, first-violation-one, occurs-kinded, excluded, part-verdict}
+use Rattle.violations.proofs.Laws.{first-violation, first-violation-one, occurs-kinded, excluded, part-verdict}
 use Rattle.projection.specs.Projection.{operationOf, keepRecords, valuesOf, keeps, projection, narrowed, excerpted}
 use Rattle.projection.specs.Outcome.{noPattern, writing, excerptAnswerOf, excerptLeavesOf, excerptAnswer, excerptLeaves}
 use Rattle.projection.specs.Marks as Marks

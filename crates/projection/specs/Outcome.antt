@@ -11,7 +11,8 @@ use Rattle.reader.specs.Log.{Reading, readable, refused, encodeLog}
 use Rattle.history.specs.Object.{Queue}
 use Rattle.history.specs.Operations.{historyOf}
 use Rattle.violations.specs.Violations.{NoViolation}
-use Rattle.violations.proofs.Laws.{SomeViolation, first-violation}
+use Rattle.violations.specs.Verdict.{SomeViolation}
+use Rattle.violations.proofs.Laws.{first-violation}
 use Rattle.projection.specs.Projection.{narrowed, excerpted}
 use Rattle.projection.specs.declared.write.Projected.{Projected}
 use Rattle.projection.specs.declared.write.Projected.the-variants.{Written, Refused}

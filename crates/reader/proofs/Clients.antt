@@ -20,7 +20,8 @@ use Rattle.reader.proofs.Calls.{own-kind, other-kind, pending-below, ea
 use Rattle.reader.proofs.Faults.{no-fault}
 use Rattle.table.proofs.Lists.{isIn-append, isIn-last}
 use Rattle.reader.proofs.Run.{Admits, none, more}
-use Rattle.reader.proofs.Search.{Lowest, Highest, None, lowest, highest, decEq}
+use Rattle.reader.specs.Search.{None}
+use Rattle.reader.proofs.Search.{Lowest, Highest, lowest, highest, decEq}
 
 -- the record with an index among those of the past, which are latest first
 abbrev pub nth : List Record → ℕ → Record

@@ -20,7 +20,8 @@ use Rattle.reader.proofs.Calls.{pending-sound, earliest-absent}
 use Rattle.reader.proofs.Clients.{nth, last-tick, kind-latest, kind-absent, value-absent, precedes-law}
 use Rattle.reader.proofs.Encoding.{log-encodes}
 use Rattle.reader.proofs.Faults.{fault-none}
-use Rattle.reader.proofs.Search.{Highest, None, highest, decEq}
+use Rattle.reader.specs.Search.{None}
+use Rattle.reader.proofs.Search.{Highest, highest, decEq}
 
 -- the fields of each record that can be written fit
 writable-small : {past records : List Record} → Writable past records → (i : ℕ) → i < length records → Small (recordOf records i)

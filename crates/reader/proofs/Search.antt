@@ -7,15 +7,13 @@ use mathlib.Core.Path.{_≡_, refl}
 use mathlib.Core.Bool.{Bool, true, false}
 use lib.Dec.{eqb}
 use borrow.Author.Tests.{eqb-true, eqb-false}
+use Rattle.reader.specs.Search.{None}
 
 pub record Lowest (P : ℕ → Type 0) (n : ℕ) : Type 0 where
   pub at : ℕ
   pub below : at < n
   pub holds : P at
   pub none-lower : (m : ℕ) → m < at → P m → ⊥
-
-abbrev pub None : (ℕ → Type 0) → ℕ → Type 0
-None P n = (m : ℕ) → m < n → P m → ⊥
 
 unfoldable pub lowest : (P : ℕ → Type 0) → ((m : ℕ) → Dec (P m)) → (n : ℕ) → Lowest P n ⊎ None P n
 lowest P d zero = inr (λ m h p. absurd (omega arith))

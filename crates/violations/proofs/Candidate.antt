@@ -10,9 +10,9 @@ use Rattle.history.specs.Object.{Queue}
 use Rattle.history.specs.History.{History, noKind, Returned, Lawful, Lone}
 use Rattle.history.specs.Sheet.{orderVerdict}
 use Rattle.violations.specs.Violations.{Is, Occurs, NoViolation}
-use Rattle.violations.specs.Verdict.{JudgedLinearization, FirstViolation, Verdict}
+use Rattle.violations.specs.Verdict.{JudgedLinearization, FirstViolation, SomeViolation, Verdict}
 use Rattle.violations.specs.Fates.{taking, Free, takes-value, Succeeds, NoneSucceeds, Settled, took}
-use Rattle.violations.proofs.FirstViolations.{SomeViolation, first-violation}
+use Rattle.violations.proofs.FirstViolations.{first-violation}
 use Rattle.violations.proofs.CompleteVerdicts.{complete-exactly}
 use Rattle.violations.proofs.Fates.{taking-back, taking-takes, comes-back-lawful, Mends, takes-one, mends}
 

@@ -6,7 +6,7 @@ use mathlib.Core.Path.{_≡_, refl}
 use mathlib.Core.Logic.{_⊎_, inl, inr, _↔_, Dec·and, Dec·not}
 use mathlib.Core.List.{List, [], _∷_}
 use lib.ListN.{length}
-use Rattle.reader.proofs.Search.{None}
+use Rattle.reader.specs.Search.{None}
 use Rattle.history.specs.History.{History, add, emptyRemove}
 use Rattle.history.specs.Linearization.{placed}
 use Rattle.history.proofs.Deciding.{equivalent?}

@@ -4,7 +4,7 @@ use native.Mathlib.Omega.{arith}
 use native.Mathlib.Decide.{decLt}
 use mathlib.Core.Path.{_≡_}
 use mathlib.Core.Logic.{_⊎_, inl, inr}
-use Rattle.reader.proofs.Search.{None}
+use Rattle.reader.specs.Search.{None}
 use Rattle.history.proofs.Basics.{up-to}
 
 -- a number with property P that is as good as each other one

@@ -8,12 +8,12 @@ use Rattle.history.specs.Object.{Object, Queue, Cell}
 use Rattle.history.specs.History.{History, Lawful}
 use Rattle.history.specs.Sheet.{orderVerdict}
 use Rattle.violations.specs.Violations.{Occurs, NoViolation}
-use Rattle.violations.specs.Verdict.{FirstViolation, JudgedLinearization, LowestLinearization, CompleteVerdict}
+use Rattle.violations.specs.Verdict.{FirstViolation, SomeViolation, JudgedLinearization, LowestLinearization, CompleteVerdict}
 use Rattle.violations.specs.Fates.{Succeeds}
 use Rattle.violations.proofs.Lowest.{Compared, lower-total}
 use Rattle.violations.proofs.Judged.{judged-complete}
 use Rattle.violations.proofs.Occurrences.{occurs-some}
-use Rattle.violations.proofs.FirstViolations.{SomeViolation, first-violation}
+use Rattle.violations.proofs.FirstViolations.{first-violation}
 use Rattle.violations.proofs.Excluding.{excluded}
 use Rattle.violations.proofs.Finding.{found-exists}
 use Rattle.violations.proofs.QueueLowest.{found-lowest}

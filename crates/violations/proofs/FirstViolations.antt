@@ -11,7 +11,7 @@ use Rattle.history.specs.Object.{Object, Queue, Cell}
 use Rattle.history.specs.History.{History, add, emptyRemove}
 use Rattle.history.proofs.Deciding.{all-below?, implies?, equivalent?, listed?, linearization?}
 use Rattle.violations.specs.Violations.{Is, AllCovered, FalseEmpty, Occurs, falseEmpty, NoViolation}
-use Rattle.violations.specs.Verdict.{FirstViolation, JudgedLinearization}
+use Rattle.violations.specs.Verdict.{FirstViolation, SomeViolation, JudgedLinearization}
 use Rattle.violations.specs.Found.{LastGap}
 use Rattle.violations.proofs.Operations.{is?, removed?}
 use Rattle.violations.proofs.Chains.{chain-one, false-empty, last-gap}
@@ -50,10 +50,6 @@ lowest-occurrence Queue h n = go (ℕ-discrete n 6)
 lowest-occurrence Cell h n =
     lowest-passing (OfKinds h) (of-kinds? h) (h .count) (λ t o p. p .0) (kindsOf n) (Occurs Cell h n) (cell-occurs? h n)
     (λ listed o. occurs-of-kinds (λ e. omega (arith, occurs-numbered o)) o)
-
--- A history has a first violation.
-abbrev pub SomeViolation : Object → History → Type 0
-SomeViolation object h = (n : ℕ) × (listed : List ℕ) × FirstViolation object h n listed
 
 -- the first violation of a history is found, or no pattern occurs
 pub first-violation : (object : Object) (h : History) → SomeViolation object h ⊎ NoViolation object h

@@ -8,7 +8,8 @@ use mathlib.Core.Logic.{_⊎_, inl, inr, Dec·and, Dec·not}
 use mathlib.Core.List.{List, [], _∷_, _++_, append-nil}
 use lib.ListN.{length, length-append}
 use lib.Seq.{append-snoc}
-use Rattle.reader.proofs.Search.{Lowest, None, lowest}
+use Rattle.reader.specs.Search.{None}
+use Rattle.reader.proofs.Search.{Lowest, lowest}
 use Rattle.history.specs.Object.{Object}
 use Rattle.history.specs.History.{History, Returned, Precedes, Lawful}
 use Rattle.history.specs.Linearization.{Runnable, placed, Listed}

@@ -12,7 +12,7 @@ use Rattle.history.specs.History.{History, RemovesReturned, Lawful}
 use Rattle.history.specs.Linearization.{Linearization}
 use Rattle.history.specs.Sheet.{orderVerdict}
 use Rattle.violations.specs.Violations.{NoViolation}
-use Rattle.violations.specs.Verdict.{FirstViolation, JudgedLinearization, CompleteVerdict, Verdict}
+use Rattle.violations.specs.Verdict.{FirstViolation, SomeViolation, JudgedLinearization, CompleteVerdict, Verdict}
 use Rattle.violations.specs.Parts.{Part, Kept}
 use Rattle.violations.specs.Fates.{Unfated}
 use Rattle.violations.specs.Search.{Single}
@@ -21,7 +21,7 @@ use Rattle.violations.proofs.Occurrences.{occurs-some}
 use Rattle.violations.proofs.Parts as parts
 -- "The lowest number that occurs is reported. Among its occurrences the lowest list": there is such an answer where a pattern
 -- occurs, and two answers that meet this are equal.
-pub use Rattle.violations.proofs.FirstViolations.{SomeViolation, first-violation, first-violation-one}
+pub use Rattle.violations.proofs.FirstViolations.{first-violation, first-violation-one}
 -- A pattern of a queue has a number from 1 to 6, one of a cell from 7 to 10; it lists operations of the history, and each has a
 -- kind.
 pub use Rattle.violations.proofs.Occurrences.{lowestNumber, highestNumber, occurs-numbered, occurs-kinded, occurs-known}

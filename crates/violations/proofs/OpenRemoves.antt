@@ -7,7 +7,8 @@ use mathlib.Core.Logic.{_⊎_, inl, inr, _↔_}
 use mathlib.Core.List.{List, [], _∷_}
 use lib.ListN.{length}
 use borrow.Author.Tests.{eq-eqb}
-use Rattle.reader.proofs.Search.{Lowest, None, lowest}
+use Rattle.reader.specs.Search.{None}
+use Rattle.reader.proofs.Search.{Lowest, lowest}
 use Rattle.history.specs.Object.{Queue}
 use Rattle.history.specs.History.{History, add, remove, emptyRemove, noKind, Returned, Precedes, Lawful, Lone}
 use Rattle.history.specs.RunFrom.{RunFrom, done, then}
@@ -15,10 +16,11 @@ use Rattle.history.specs.Linearization.{Makes, puts, takes, meets, Fifo, Moves,
 use Rattle.history.proofs.Running.{run-over}
 use Rattle.history.proofs.Queues.{makes-kind, complete-linearization, linearization-complete}
 use Rattle.violations.specs.Violations.{Is, RemoveOf, NoViolation}
+use Rattle.violations.specs.Verdict.{SomeViolation}
 use Rattle.violations.specs.Fates.{taking, Free, Fate, takes-value, Succeeds}
 use Rattle.violations.proofs.Lists.{listed-here, listed-behind}
 use Rattle.violations.proofs.Operations.{is?}
-use Rattle.violations.proofs.FirstViolations.{SomeViolation, first-violation}
+use Rattle.violations.proofs.FirstViolations.{first-violation}
 use Rattle.violations.proofs.Excluding.{Served, served, single}
 use Rattle.violations.proofs.CompleteVerdicts.{complete-exactly}
 use Rattle.violations.proofs.Fates.{comingBack, ComesBack, coming-back, taking-back, comes-back-lawful, is-here, remove-there, mends}

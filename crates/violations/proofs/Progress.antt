@@ -5,7 +5,8 @@ use native.Mathlib.Decide.{decLt, ℕ-discrete}
 use mathlib.Core.Path.{_≡_, sym, ap, _∙_}
 use mathlib.Core.Logic.{_⊎_, inl, inr, Dec·and}
 use mathlib.Core.List.{List, [], _∷_}
-use Rattle.reader.proofs.Search.{Lowest, None, lowest}
+use Rattle.reader.specs.Search.{None}
+use Rattle.reader.proofs.Search.{Lowest, lowest}
 use Rattle.history.specs.History.{History, add, remove, emptyRemove, Lawful}
 use Rattle.history.specs.Linearization.{Listed}
 use Rattle.history.proofs.Deciding.{equivalent?}

@@ -11,12 +11,12 @@ use Rattle.history.specs.Runs.{Holds, Correct}
 use Rattle.history.proofs.Deciding.{all-below?, implies?, equivalent?, some?}
 use Rattle.history.proofs.Rows.{each?, history, reading, rows-hold, rows-correct}
 use Rattle.violations.specs.Violations.{Is}
-use Rattle.violations.specs.Verdict.{FirstViolation, JudgedLinearization}
+use Rattle.violations.specs.Verdict.{FirstViolation, SomeViolation, JudgedLinearization}
 use Rattle.violations.specs.Fates.{taking, Free}
 use Rattle.violations.specs.Runs.{Expected, linearization, violation, Judged, runs, picks, cellRuns, Settling, leaves-out, lets-take, Settles, openRuns}
 use Rattle.violations.proofs.Lists.{each-map}
 use Rattle.violations.proofs.Operations.{is?}
-use Rattle.violations.proofs.FirstViolations.{SomeViolation, violated?, first-violation?, judged-linearization?}
+use Rattle.violations.proofs.FirstViolations.{violated?, first-violation?, judged-linearization?}
 use Rattle.violations.proofs.CompleteVerdicts.{complete-exactly}
 use Rattle.violations.proofs.Fates.{taking-back, comes-back-lawful}
 use Rattle.violations.proofs.Candidate.{it-settles, it-fails}

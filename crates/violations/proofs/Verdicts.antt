@@ -5,20 +5,21 @@ use native.Mathlib.Omega.{arith}
 use mathlib.Core.Path.{_≡_, refl, sym}
 use mathlib.Core.Logic.{_⊎_, inl, inr, _↔_, Dec·and, Dec·not}
 use mathlib.Core.List.{List}
-use Rattle.reader.proofs.Search.{Lowest, None, lowest}
+use Rattle.reader.specs.Search.{None}
+use Rattle.reader.proofs.Search.{Lowest, lowest}
 use Rattle.history.specs.Object.{Object, Queue, Cell}
 use Rattle.history.specs.History.{History, add, noKind, RemovesReturned, Lawful, Lone, LoneIn}
 use Rattle.history.specs.Linearization.{Linearization}
 use Rattle.history.specs.Sheet.{orderVerdict}
 use Rattle.history.proofs.Deciding.{equivalent?}
 use Rattle.violations.specs.Violations.{Is, NoViolation}
-use Rattle.violations.specs.Verdict.{JudgedLinearization, LowestLinearization, FirstViolation, CompleteVerdict, Verdict}
+use Rattle.violations.specs.Verdict.{JudgedLinearization, LowestLinearization, FirstViolation, SomeViolation, CompleteVerdict, Verdict}
 use Rattle.violations.specs.Parts.{Alike}
 use Rattle.violations.specs.Fates.{taking, Free, Fate, takes-value, Succeeds, NoneSucceeds, Settled, left-out, took, Unfated}
 use Rattle.violations.proofs.Operations.{is?, removed?}
 use Rattle.violations.proofs.Judged.{judged-complete}
 use Rattle.violations.proofs.Occurrences.{occurs-some}
-use Rattle.violations.proofs.FirstViolations.{SomeViolation, first-violation, first-violation-one}
+use Rattle.violations.proofs.FirstViolations.{first-violation, first-violation-one}
 use Rattle.violations.proofs.CellExcluding.{cell-excluded}
 use Rattle.violations.proofs.CompleteVerdicts.{judged-excluded, judged-exactly, complete-exactly, lowest-exists, lowest-one, complete-verdict, complete-zero}
 use Rattle.violations.proofs.Alike.{alike-sym, alike-complete-verdict}

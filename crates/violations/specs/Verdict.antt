@@ -22,6 +22,10 @@ pub record FirstViolation (object : Object) (h : History) (number : ℕ) (listed
   pub lowest-number : (n : ℕ) (other : List ℕ) → n < number → Occurs object h n other → ⊥
   pub lowest-list : (other : List ℕ) → Occurs object h number other → Lower other listed → ⊥
 
+-- a first pattern, whatever its number and list
+abbrev pub SomeViolation : Object → History → Type 0
+SomeViolation object h = (number : ℕ) × (listed : List ℕ) × FirstViolation object h number listed
+
 -- A legal order as the judge lists it: "The judge lists an open add exactly if its value was removed", and "an open write ..
 -- exactly if its value was read" (change 5). Everything else that has not returned is left out.
 pub record JudgedLinearization (object : Object) (h : History) (order : List ℕ) : Type 0 where

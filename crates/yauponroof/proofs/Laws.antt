@@ -20,7 +20,8 @@ use Rattle.reader.proofs.Laws.{within, checked-refused, few-operations}
 use Rattle.history.specs.Object.{Queue}
 use Rattle.history.specs.Operations.{historyOf}
 use Rattle.violations.specs.Violations.{NoViolation}
-use Rattle.violations.proofs.Laws.{SomeViolation, first-violation}
+use Rattle.violations.specs.Verdict.{SomeViolation}
+use Rattle.violations.proofs.Laws.{first-violation}
 use Rattle.replay.specs.Replay.{replayed, ListsLinearization, ListsOther}
 use Rattle.replay.specs.declared.replay.Replayed.{Replayed}
 use Rattle.replay.specs.declared.replay.Replayed.the-variants as replay
