@@ -8,6 +8,7 @@ use lib.ListN.{length, getD, length-reverse}
 use lib.Dec.{ltb, leb, eqb, lit≤}
 use borrow.Author.Tests.{ltb-true, ltb-false, eqb-false}
 use Rattle.record.specs.Choice.{if_then_else_}
+use Rattle.record.specs.Refusal.{maxRefusal}
 use Rattle.record.specs.Record.{lengthOf, recordAt, decodeAt}
 use Rattle.record.specs.declared.record.Event.{Event}
 use Rattle.record.specs.declared.record.Event.the-variants.{CallAdd, CallRemove, ReturnAdd, ReturnRemove}
@@ -18,10 +19,10 @@ use Rattle.reader.specs.Log.{logVersion, headerLength, maxRecords, count
 use Rattle.table.specs.Table.{isIn}
 use Rattle.reader.specs.Readable.{Within}
 
--- a refusal of a record has a number from 1 to 10
+-- a refusal of a record has a number within the bounds
 abbrev pub Numbered : Decoded → Type 0
 Numbered (Found r next) = Unit {0}
-Numbered (Malformed number) = (1 ≤ number) × (number ≤ 10)
+Numbered (Malformed number) = (1 ≤ number) × (number ≤ maxRefusal)
 
 pub decode-numbered : (log : List ℕ) (at : ℕ) → Numbered (decodeAt log at)
 unfolding decodeAt
@@ -36,21 +37,21 @@ decode-numbered log at =
     go false false false false true = tt
     go false false false false false = (lit≤ tt, lit≤ tt)
 
-fault-numbered : (past : List Record) (r : Record) → fault past r ≤ 10
+fault-numbered : (past : List Record) (r : Record) → fault past r ≤ maxRefusal
 unfolding fault eventFault
 fault-numbered past r = tick (ltb (r .tick) (lastTick past))
   where
-    pick : (b : Bool) (m n : ℕ) → m ≤ 10 → n ≤ 10 → (if b then m else n) ≤ 10
+    pick : (b : Bool) (m n : ℕ) → m ≤ maxRefusal → n ≤ maxRefusal → (if b then m else n) ≤ maxRefusal
     pick true m n hm hn = hm
     pick false m n hm hn = hn
 
-    event : (e : Event) (kind : ℕ) (values : List ℕ) → eventFault e kind values ≤ 10
+    event : (e : Event) (kind : ℕ) (values : List ℕ) → eventFault e kind values ≤ maxRefusal
     event (CallAdd v) kind values = pick (not (eqb kind 0)) 7 _ (lit≤ tt) (pick (isIn v values) 9 0 (lit≤ tt) (lit≤ tt))
     event CallRemove kind values = pick (not (eqb kind 0)) 7 0 (lit≤ tt) (lit≤ tt)
     event ReturnAdd kind values = pick (not (eqb kind 1)) 8 0 (lit≤ tt) (lit≤ tt)
     event (ReturnRemove x) kind values = pick (not (eqb kind 2)) 8 0 (lit≤ tt) (lit≤ tt)
 
-    tick : (b : Bool) → (if b then 6 else eventFault (r .event) (pendingKind (pendingCalls past) (r .client)) (addedValues past)) ≤ 10
+    tick : (b : Bool) → (if b then 6 else eventFault (r .event) (pendingKind (pendingCalls past) (r .client)) (addedValues past)) ≤ maxRefusal
     tick b = pick b 6 _ (lit≤ tt) (event (r .event) (pendingKind (pendingCalls past) (r .client)) (addedValues past))
 
 scan-within : (log : List ℕ) (left at : ℕ) (past : List Record) → length past + left ≤ maxRecords → Within (scan log left at past)

@@ -110,7 +110,7 @@ called {records = records} l j h n = go (precedes-law records j h)
 pub written-log : (records : List Record) → length records ≤ maxRecords → Writable [] records → readPartial (encodeLog records) ≡ readable records
 written-log = log-encodes
 
--- a log that is read is short, and a refusal has a number from 1 to 10 and an index of at most 1,024; the same but for 10
+-- a log that is read is short, and the number and index of a refusal are small; the same but for 10
 pub within : (log : List ℕ) → Within (readLog log)
 within = log-within
 

@@ -5,7 +5,7 @@ use mathlib.Core.Path.{_≡_}
 use mathlib.Core.List.{List, [], _∷_}
 use lib.ListN.{length, getD, take}
 use Rattle.record.specs.Number.{Bytes}
-use Rattle.record.specs.Refusal.{removePending}
+use Rattle.record.specs.Refusal.{maxRefusal}
 use Rattle.record.specs.Record.{sizeOf, Small, decodeAt}
 use Rattle.record.specs.declared.record.Event.{Event}
 use Rattle.record.specs.declared.record.Event.the-variants.{CallAdd, CallRemove, ReturnAdd, ReturnRemove}
@@ -13,10 +13,11 @@ use Rattle.record.specs.declared.record.Record.{Record}
 use Rattle.record.specs.declared.record.Decoded.the-variants.{Found}
 use Rattle.reader.specs.Log.{logVersion, headerLength, maxRecords, maxLength, addCall, removeCall, countField, Reading, readable, refused, fault, encodeLog}
 
--- A log that is read has at most 1,024 records, and a refusal a number from 1 to 10 and an index of at most 1,024.
+-- A log that is read has at most 1,024 records, and a refusal a number from 1 to 63 and an index of at most 1,024. The bound on
+-- numbers leaves room for refusals that are not there yet; which ones a log is given is said by `readLog`.
 abbrev pub Within : Reading → Type 0
 Within (readable records) = length records ≤ maxRecords
-Within (refused number index) = (1 ≤ number) × (number ≤ removePending) × (index ≤ maxRecords)
+Within (refused number index) = (1 ≤ number) × (number ≤ maxRefusal) × (index ≤ maxRecords)
 
 -- the record with an index; behind the last one a call of remove, which tells of no return
 abbrev pub recordOf : List Record → ℕ → Record

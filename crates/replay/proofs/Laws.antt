@@ -137,10 +137,12 @@ linearization-replays log records e order l = (sheet-lists orderVerdict order sh
     numbers : (i : ℕ) → getD order i 0 < 65536
     numbers i = small i (decLt i (length order))
 
--- a refusal has a number from 1 to 11 and an index of at most 1,024
-pub replay-within : (log sheet : List ℕ) {number index : ℕ} → replayed (readLog log) sheet ≡ Refused number index → (1 ≤ number) × (number ≤ wrongSheet) × (index ≤ maxRecords)
+-- a refusal is within the same bounds as one of a log
+pub replay-within : (log sheet : List ℕ) {number index : ℕ} → replayed (readLog log) sheet ≡ Refused number index
+    → Within (refused number index)
 replay-within log sheet {number} {index} e = go (readLog log) refl (within log) e
   where
-    go : (reading : Reading) → readLog log ≡ reading → Within reading → replayed reading sheet ≡ Refused number index → (1 ≤ number) × (number ≤ wrongSheet) × (index ≤ maxRecords)
+    go : (reading : Reading) → readLog log ≡ reading → Within reading → replayed reading sheet ≡ Refused number index
+        → Within (refused number index)
     go (readable records) reads w e = let (form, n, i) = refused-is-form log sheet records reads {number = number} {index = index} (rw reads e) in (omega arith, omega arith, omega arith)
     go (refused n i) reads w e = let p : n ≡ number = cc in let q : i ≡ index = cc in (omega (arith, w .0), omega (arith, w .1), omega (arith, w .2))
