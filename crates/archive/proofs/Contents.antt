@@ -10,6 +10,7 @@ use lib.Seq.{take-append-seam}
 use Rattle.record.specs.Choice.{if_then_else_}
 use Rattle.record.specs.declared.record.Record.{Record}
 use Rattle.buffer.specs.Buffer.{bufferTooShort, lacksRoom, written}
+use Rattle.buffer.specs.declared.output.Output.the-variants.{Written, Refused}
 use Rattle.reader.specs.Log.{maxRecords, Reading, readable, refused, readLog, operations, encodeLog}
 use Rattle.reader.specs.Readable.{Within}
 use Rattle.reader.proofs.Laws.{within, few-operations}
@@ -28,7 +29,6 @@ use Rattle.judge.specs.declared.judge.Verdict.the-variants.{Order}
 use Rattle.judge.proofs.Laws.{judged-shows, accepted-not-refused, verdict-at-most}
 use Rattle.projection.specs.Projection.{excerpted}
 use Rattle.projection.specs.Outcome.{excerptAnswerOf, excerptLeavesOf}
-use Rattle.projection.specs.declared.write.Projected.the-variants.{Written, Refused}
 use Rattle.archive.specs.Archive.{verdictByte, Archive, with-order, with-pattern}
 
 -- The sheet of an archive: the log is readable, and the sheet holds its verdict, an order as the search finds it.

@@ -8,6 +8,7 @@ use lib.ListN.{length}
 use borrow.Author.Tests.{le-ltb, ne-eqb}
 use Rattle.record.specs.declared.record.Record.{Record}
 use Rattle.buffer.specs.Buffer.{written}
+use Rattle.buffer.specs.declared.output.Output.the-variants.{Written}
 use Rattle.reader.specs.Log.{readable, readLog, encodeLog}
 use Rattle.reader.proofs.Laws.{readable-log}
 use Rattle.history.specs.Object.{Queue}
@@ -23,7 +24,6 @@ use Rattle.judge.specs.Judge.{verdictOf, Delivers, Judges, judged}
 use Rattle.judge.specs.declared.judge.Verdict.the-variants.{Pattern}
 use Rattle.projection.specs.Projection.{excerpted}
 use Rattle.projection.specs.Outcome.{excerptAnswerOf, excerptAnswer}
-use Rattle.projection.specs.declared.write.Projected.the-variants.{Written}
 use Rattle.archive.specs.Archive.{Archive, with-order, with-pattern}
 
 module _ (log : List ℕ) (records : List Record) (reads : readLog log ≡ readable records) where

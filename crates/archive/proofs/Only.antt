@@ -6,6 +6,7 @@ use mathlib.Core.Path.{_≡_, refl, sym, ap, _∙_}
 use mathlib.Core.Logic.{_⊎_, inl, inr}
 use mathlib.Core.List.{List, []}
 use Rattle.record.specs.declared.record.Record.{Record}
+use Rattle.buffer.specs.declared.output.Output.the-variants.{Written}
 use Rattle.reader.specs.Log.{readable, readLog, encodeLog}
 use Rattle.reader.proofs.Laws.{readable-log}
 use Rattle.history.specs.Object.{Queue}
@@ -18,7 +19,6 @@ use Rattle.violations.specs.Verdict.{FirstViolation, SomeViolation}
 use Rattle.violations.proofs.Laws.{first-violation, judged-complete, excluded, verdict-one, listed-one, zero-is-linearization, pattern-of}
 use Rattle.projection.specs.Projection.{excerpted}
 use Rattle.projection.specs.Outcome.{excerptAnswerOf, excerptAnswer}
-use Rattle.projection.specs.declared.write.Projected.the-variants.{Written}
 use Rattle.archive.specs.Archive.{verdictByte, Archive, with-order, with-pattern}
 use Rattle.archive.proofs.Contents.{Contents, archive-contents, archive-excerpt}
 

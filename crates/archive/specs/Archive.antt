@@ -4,11 +4,11 @@ use Prim.Native.Nat.{ℕ}
 use mathlib.Core.Path.{_≡_}
 use mathlib.Core.List.{List, []}
 use lib.ListN.{getD, take}
+use Rattle.buffer.specs.declared.output.Output.the-variants.{Written}
 use Rattle.reader.specs.Log.{readLog}
 use Rattle.judge.specs.Judge.{sheetBytes, Judges}
 use Rattle.judge.specs.declared.judge.Verdict.the-variants.{Order, Pattern}
 use Rattle.projection.specs.Outcome.{excerptAnswer, excerptLeaves}
-use Rattle.projection.specs.declared.write.Projected.the-variants.{Written}
 
 -- the verdict byte of a sheet
 abbrev pub verdictByte : List ℕ → ℕ

@@ -43,9 +43,9 @@ pub put-length : (at : ℕ) (bytes out : List ℕ) → at + length bytes ≤ len
 put-length at bytes out h = simp (length-append, length-drop, length-take-le at out (omega arith)) (omega arith)
 
 -- bytes put behind others
-pub put-behind : (at : ℕ) (front bytes out : List ℕ) → at + length front + length bytes ≤ length out → put (at + length front) bytes (put at front out) ≡ put at (front ++ bytes) out
+pub put-behind : (at : ℕ) (front bytes out : List ℕ) → at ≤ length out → put (at + length front) bytes (put at front out) ≡ put at (front ++ bytes) out
 put-behind at front bytes out h =
-    let head : length (take at out ++ front) ≡ at + length front = simp (length-append, length-take-le at out (omega arith)) refl in
+    let head : length (take at out ++ front) ≡ at + length front = simp (length-append, length-take-le at out h) refl in
     rw (
       take-at (take at out ++ front) (drop (at + length front) out) (at + length front) head,
       ← drop-drop (length bytes) (at + length front) (take at out ++ front ++ drop (at + length front) out),

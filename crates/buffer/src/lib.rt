@@ -1,2 +1,3 @@
-// What a call leaves in a buffer that is lent to it.
+// What a call leaves in a buffer that is lent to it, and what it answers.
 pub mod buffer;
+pub mod output;

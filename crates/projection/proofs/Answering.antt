@@ -4,6 +4,8 @@ use native.Mathlib.Omega.{arith}
 use mathlib.Core.Path.{_≡_, refl, sym, _∙_}
 use mathlib.Core.List.{List, []}
 use lib.ListN.{length}
+use Rattle.buffer.specs.declared.output.Output.{Output}
+use Rattle.buffer.specs.declared.output.Output.the-variants.{Refused}
 use Rattle.reader.specs.Log.{maxRecords, refused, readLog, checked}
 use Rattle.reader.specs.declared.log.Checked.{Checked}
 use Rattle.reader.specs.declared.log.Checked.the-variants as check
@@ -15,8 +17,6 @@ use Rattle.projection.specs.Projection.{keeps, projection}
 use Rattle.projection.specs.Outcome.{narrowAnswer, narrowLeaves}
 use Rattle.projection.specs.Marks.{isSet, keepsIn, TableOf, KeptAre, operationAt}
 use Rattle.projection.specs.Copies.{keptRecords, Writes}
-use Rattle.projection.specs.declared.write.Projected.{Projected}
-use Rattle.projection.specs.declared.write.Projected.the-variants.{Refused}
 use Rattle.projection.proofs.Along.{whole-readable, whole-one}
 use Rattle.projection.proofs.Operations.{operation-known}
 use Rattle.projection.proofs.Selecting.{keep-same}
@@ -43,7 +43,7 @@ module _ {log : List ℕ} {n m : ℕ} {table : List ℕ} (of : TableOf log n m t
 
   -- so the records of the marked operations are the projection
   pub writes-projection : {empties values kept : List ℕ} → KeptAre table m empties values kept
-      → {out out' : List ℕ} {r : Projected} → Writes log (keptRecords kept) out r out' → Writes log (λ records. projection records empties values) out r out'
+      → {out out' : List ℕ} {r : Output} → Writes log (keptRecords kept) out r out' → Writes log (λ records. projection records empties values) out r out'
   writes-projection {empties} {values} {kept} kept-are writes = writes-same writes (λ records reads. rw (← whole-one (of .whole) records reads) all)
     where
       all : keptRecords kept (of .whole .records) ≡ projection (of .whole .records) empties values
@@ -54,6 +54,6 @@ module _ {log : List ℕ} {n m : ℕ} {table : List ℕ} (of : TableOf log n m t
               let known : operationAt (of .whole .records) i < m = omega (arith, of .counted, operation-known (whole-readable (of .whole)) i l) in
               kept-are .marked (operationAt (of .whole .records) i) known ∙ keeps-agree empties values (operationAt (of .whole .records) i) known
 
-  pub narrow-readable : (values : List ℕ) {out out' : List ℕ} {r : Projected} → Writes log (λ records. projection records [] values) out r out'
+  pub narrow-readable : (values : List ℕ) {out out' : List ℕ} {r : Output} → Writes log (λ records. projection records [] values) out r out'
       → (r ≡ narrowAnswer (readLog log) values out) × (out' ≡ narrowLeaves (readLog log) values out)
   narrow-readable values writes = rw (of .whole .reads) (writes .answers (of .whole .records) (of .whole .reads), writes .leaves (of .whole .records) (of .whole .reads))

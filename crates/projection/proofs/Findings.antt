@@ -7,6 +7,9 @@ use mathlib.Core.List.{List, [], _∷_}
 use lib.ListN.{length, getD, take}
 use lib.Seq.{length-take-le}
 use Rattle.buffer.specs.Buffer.{written}
+use Rattle.buffer.specs.Output.{writing}
+use Rattle.buffer.specs.declared.output.Output.{Output}
+use Rattle.buffer.specs.declared.output.Output.the-variants.{Refused}
 use Rattle.reader.specs.Log.{maxRecords, refused, readLog, checked, encodeLog}
 use Rattle.reader.specs.declared.log.Checked.{Checked}
 use Rattle.reader.specs.declared.log.Checked.the-variants as check
@@ -25,12 +28,10 @@ use Rattle.violations.proofs.Laws.{first-violation, first-violation-one, occurs
 use Rattle.matching.specs.Held.{Held}
 use Rattle.judge.specs.Decision.{Decided}
 use Rattle.projection.specs.Projection.{valuesOf, projection, excerpted}
-use Rattle.projection.specs.Outcome.{noPattern, writing, excerptAnswerOf, excerptLeavesOf, excerptAnswer, excerptLeaves}
+use Rattle.projection.specs.Outcome.{noPattern, excerptAnswerOf, excerptLeavesOf, excerptAnswer, excerptLeaves}
 use Rattle.projection.specs.Marks.{entriesOf, TableOf}
 use Rattle.projection.specs.Listed.{Listable}
 use Rattle.projection.specs.Copies.{Writes}
-use Rattle.projection.specs.declared.write.Projected.{Projected}
-use Rattle.projection.specs.declared.write.Projected.the-variants.{Refused}
 use Rattle.projection.proofs.Along.{whole-readable}
 use Rattle.projection.proofs.Answering.{count-small}
 
@@ -98,7 +99,7 @@ module _ {log : List ℕ} {n m : ℕ} {table : List ℕ} (of : TableOf log n m t
       listed-listable = record { few = omega (arith, listed-length, decided .within); small = known-small (count-small of) (take k list) listed-known }
 
       -- and the excerpt is made from them
-      pub pattern-found : {out out' : List ℕ} {r : Projected} → Writes log (λ records. projection records (take k list) (valuesOf (entriesOf table) (take k list))) out r out'
+      pub pattern-found : {out out' : List ℕ} {r : Output} → Writes log (λ records. projection records (take k list) (valuesOf (entriesOf table) (take k list))) out r out'
           → (r ≡ excerptAnswer (readLog log) out) × (out' ≡ excerptLeaves (readLog log) out)
       pattern-found {out} {out'} {r} writes = rw (of .whole .reads) (go (first-violation Queue own))
         where

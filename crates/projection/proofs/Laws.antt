@@ -14,10 +14,12 @@ use Rattle.record.specs.Number.{bytesOf, Bytes}
 use Rattle.record.specs.Record.{encode}
 use Rattle.record.specs.declared.record.Record.{Record}
 use Rattle.buffer.specs.Buffer.{written}
+use Rattle.buffer.specs.Output.{writing}
+use Rattle.buffer.specs.declared.output.Output.the-variants.{Refused}
 use Rattle.reader.specs.Log.{maxLength, encodeAll, readable, readLog, encodeLog, operations}
 use Rattle.table.specs.Table.{isIn}
 use Rattle.reader.specs.Readable.{ReadableLog, Orderly}
-use Rattle.reader.proofs.Laws.{readable-log, readable-orderly, orderly-readable}
+use Rattle.reader.proofs.Laws.{sizes-most, readable-log, readable-orderly, orderly-readable}
 use Rattle.history.specs.Object.{Queue}
 use Rattle.history.specs.History.{History, add, emptyRemove, noKind}
 use Rattle.history.specs.Each.{Each}
@@ -30,9 +32,9 @@ use Rattle.violations.specs.Verdict.{FirstViolation, SomeViolation, Verdict}
 use Rattle.violations.specs.Parts.{HasValue, Part, Kept}
 use Rattle.violations.proofs.Laws.{first-violation, first-violation-one, occurs-kinded, excluded, part-verdict}
 use Rattle.projection.specs.Projection.{operationOf, keepRecords, valuesOf, keeps, projection, narrowed, excerpted}
-use Rattle.projection.specs.Outcome.{noPattern, writing, excerptAnswerOf, excerptLeavesOf, excerptAnswer, excerptLeaves}
+use Rattle.projection.specs.Outcome.{noPattern, excerptAnswerOf, excerptLeavesOf, excerptAnswer, excerptLeaves}
 use Rattle.projection.specs.Marks as Marks
-use Rattle.projection.specs.declared.write.Projected.the-variants.{Refused}
+use Rattle.projection.proofs.Sizes.{log-length}
 use Rattle.projection.proofs.Selecting.{keep-same}
 use Rattle.projection.proofs.Operations.{operation-known}
 use Rattle.projection.proofs.Picking.{Picked}
@@ -116,8 +118,10 @@ excerpt-verdict log records reads bytes {n} {listed} first =
     )
 
 -- A log that is written out of a log is no longer than a log may be.
-pub projection-short : (log : List ℕ) (records : List Record) → readLog log ≡ readable records → Bytes log → (empties values : List ℕ) → length (encodeLog (projection records empties values)) ≤ maxLength
-projection-short log records reads bytes empties values = orderly-log (projection-orderly empties values (readable-orderly (readable-log log records reads) bytes)) .partial .short
+pub projection-short : (log : List ℕ) (records : List Record) → readLog log ≡ readable records → (empties values : List ℕ) → length (encodeLog (projection records empties values)) ≤ maxLength
+projection-short log records reads empties values =
+    let kept : List Record = projection records empties values in
+    omega (arith, log-length kept, sizes-most kept, picks records empties values .fewer, readable-log log records reads .partial .regular .few)
 
 -- "Narrowing to a list of values keeps all records of operations on those values and nothing else": what is written is a readable log.
 pub narrowed-readable : (log : List ℕ) (records : List Record) → readLog log ≡ readable records → Bytes log → (values : List ℕ) → readLog (encodeLog (narrowed records values)) ≡ readable (narrowed records values)

@@ -10,14 +10,14 @@ use borrow.Author.Tests.{lt-ltb, le-ltb}
 use Rattle.record.specs.Number.{bytesOf}
 use Rattle.record.specs.declared.record.Record.{Record}
 use Rattle.buffer.specs.Buffer.{bufferTooShort, lacksRoom, written, put}
+use Rattle.buffer.specs.Output.{writing}
+use Rattle.buffer.specs.declared.output.Output.{Output}
+use Rattle.buffer.specs.declared.output.Output.the-variants.{Written, Refused}
 use Rattle.buffer.proofs.Copying.{put-length, put-behind}
 use Rattle.reader.specs.Log.{logVersion, headerLength, readable, readLog, encodeAll, encodeLog}
-use Rattle.projection.specs.Outcome.{writing}
 use Rattle.projection.specs.Copies.{marked, Measured, RoomFor, Copied, Writes}
 use Rattle.projection.specs.declared.measure.Extent.{Extent}
-use Rattle.projection.specs.declared.write.Projected.{Projected}
-use Rattle.projection.specs.declared.write.Projected.the-variants.{Written, Refused}
-use Rattle.projection.proofs.Sizes.{sizes-are, log-length}
+use Rattle.projection.proofs.Sizes.{log-length}
 
 -- the header of a log of so many records
 abbrev header : ℕ → List ℕ
@@ -69,12 +69,12 @@ module _ {log marks : List ℕ} {extent : Extent} (measured : Measured log marks
             → put headerLength (encodeAll (marked marks records)) headed ≡ encodeLog (marked marks records) ++ drop (length (encodeLog (marked marks records))) out
         joined records reads =
             ap (put headerLength (encodeAll (marked marks records))) h
-            ∙ put-behind 0 (header (extent .records)) (encodeAll (marked marks records)) out (omega (arith, sizes-are (marked marks records), measured .bytes-are records reads))
+            ∙ put-behind 0 (header (extent .records)) (encodeAll (marked marks records)) out (omega arith)
             ∙ put-front (header (extent .records) ++ encodeAll (marked marks records)) out
             ∙ ap (λ bytes. bytes ++ drop (length bytes) out) (sym (answer-is records reads))
 
 -- what is picked alike is written alike
-pub writes-same : {log out out' : List ℕ} {pick other : List Record → List Record} {answer : Projected} → Writes log other out answer out'
+pub writes-same : {log out out' : List ℕ} {pick other : List Record → List Record} {answer : Output} → Writes log other out answer out'
     → ((records : List Record) → readLog log ≡ readable records → other records ≡ pick records) → Writes log pick out answer out'
 writes-same {out = out} writes same = record {
   answers = λ records reads. writes .answers records reads ∙ ap (λ picked. writing (encodeLog picked) out) (same records reads);

@@ -113,7 +113,7 @@ module _ {log marks old out : List ℕ} {end from at i : ℕ} (writing : Writing
       first-more = rw (part-is, is-size) (chosen-bytes (isSet marks) (writing .whole .records) i (drop from log) (rw (writing .along .stands) (record-bytes (writing .along .readable .partial) (writing .bytes) i below)))
 
       behind-first : put at part out ≡ put headerLength (encodeAll (first i) ++ part) old
-      behind-first = rw (writing .copied, writing .reached, ← sizes-are (first i)) (put-behind headerLength (encodeAll (first i)) part old (omega (arith, sizes-are (first i), writing .reached, part-length, writing-fits)))
+      behind-first = rw (writing .copied, writing .reached, ← sizes-are (first i)) (put-behind headerLength (encodeAll (first i)) part old (omega (arith, writing .room)))
 
       pub writing-next : {out' : List ℕ} → out' ≡ put at part out → Writing log end marks old out' next (at + size) (i + 1)
       writing-next c = record {

@@ -9,13 +9,13 @@ use lib.Dec.{eqb}
 use Rattle.record.specs.Choice.{if_then_else_}
 use Rattle.record.specs.declared.record.Record.{Record}
 use Rattle.buffer.specs.Buffer.{written, put}
+use Rattle.buffer.specs.Output.{writing}
+use Rattle.buffer.specs.declared.output.Output.{Output}
 use Rattle.reader.specs.Log.{headerLength, maxRecords, maxLength, readable, readLog, encodeAll, encodeLog}
 use Rattle.reader.specs.Readable.{recordOf, sizes}
 use Rattle.projection.specs.Projection.{keepRecords}
-use Rattle.projection.specs.Outcome.{writing}
 use Rattle.projection.specs.Marks.{keptMark, isSet}
 use Rattle.projection.specs.declared.measure.Extent.{Extent}
-use Rattle.projection.specs.declared.write.Projected.{Projected}
 
 -- the chosen ones of the first n records
 unfoldable pub chosen : (ℕ → Bool) → List Record → ℕ → List Record
@@ -46,7 +46,7 @@ pub record Copied (log marks out out' : List ℕ) : Type 0 where
   pub copied : (records : List Record) → readLog log ≡ readable records → out' ≡ put headerLength (encodeAll (marked marks records)) out
 
 -- Those of a readable log's records that are picked are written as a log, if there is room.
-pub record Writes (log : List ℕ) (pick : List Record → List Record) (out : List ℕ) (answer : Projected) (out' : List ℕ) : Type 0 where
+pub record Writes (log : List ℕ) (pick : List Record → List Record) (out : List ℕ) (answer : Output) (out' : List ℕ) : Type 0 where
   pub answers : (records : List Record) → readLog log ≡ readable records → answer ≡ writing (encodeLog (pick records)) out
   pub leaves : (records : List Record) → readLog log ≡ readable records → out' ≡ written (encodeLog (pick records)) out
 

@@ -3,10 +3,11 @@
 use Prim.Native.Nat.{ℕ}
 use mathlib.Core.Logic.{_⊎_, inl, inr}
 use mathlib.Core.List.{List}
-use lib.ListN.{length}
-use Rattle.record.specs.Choice.{if_then_else_}
 use Rattle.record.specs.declared.record.Record.{Record}
-use Rattle.buffer.specs.Buffer.{bufferTooShort, lacksRoom, written}
+use Rattle.buffer.specs.Buffer.{written}
+use Rattle.buffer.specs.Output.{writing}
+use Rattle.buffer.specs.declared.output.Output.{Output}
+use Rattle.buffer.specs.declared.output.Output.the-variants.{Refused}
 use Rattle.reader.specs.Log.{Reading, readable, refused, encodeLog}
 use Rattle.history.specs.Object.{Queue}
 use Rattle.history.specs.Operations.{historyOf}
@@ -14,19 +15,13 @@ use Rattle.violations.specs.Violations.{NoViolation}
 use Rattle.violations.specs.Verdict.{SomeViolation}
 use Rattle.violations.proofs.Laws.{first-violation}
 use Rattle.projection.specs.Projection.{narrowed, excerpted}
-use Rattle.projection.specs.declared.write.Projected.{Projected}
-use Rattle.projection.specs.declared.write.Projected.the-variants.{Written, Refused}
 
 -- 23: "excerpt where the verdict is an order"
 abbrev pub noPattern : ℕ
 noPattern = 23
 
--- the answer of a call that writes these bytes: how many they are, or 24
-abbrev pub writing : List ℕ → List ℕ → Projected
-writing bytes out = if lacksRoom bytes out then Refused bufferTooShort 0 else Written (length bytes)
-
 -- narrowing of a log, as it was read: the log's refusal, or the narrowed log is written
-abbrev pub narrowAnswer : Reading → List ℕ → List ℕ → Projected
+abbrev pub narrowAnswer : Reading → List ℕ → List ℕ → Output
 narrowAnswer (refused number index) values out = Refused number index
 narrowAnswer (readable records) values out = writing (encodeLog (narrowed records values)) out
 
@@ -36,7 +31,7 @@ narrowLeaves (readable records) values out = written (encodeLog (narrowed record
 
 -- the excerpt of a log: the log's refusal; 23 if no pattern occurs; or the excerpt of the first pattern is written
 abbrev pub excerptAnswerOf : (records : List Record)
-    → SomeViolation Queue (historyOf records) ⊎ NoViolation Queue (historyOf records) → List ℕ → Projected
+    → SomeViolation Queue (historyOf records) ⊎ NoViolation Queue (historyOf records) → List ℕ → Output
 excerptAnswerOf records (inl (number, listed, first)) out = writing (encodeLog (excerpted records listed)) out
 excerptAnswerOf records (inr clean) out = Refused noPattern 0
 
@@ -45,7 +40,7 @@ abbrev pub excerptLeavesOf : (records : List Record)
 excerptLeavesOf records (inl (number, listed, first)) out = written (encodeLog (excerpted records listed)) out
 excerptLeavesOf records (inr clean) out = out
 
-abbrev pub excerptAnswer : Reading → List ℕ → Projected
+abbrev pub excerptAnswer : Reading → List ℕ → Output
 excerptAnswer (refused number index) out = Refused number index
 excerptAnswer (readable records) out = excerptAnswerOf records (first-violation Queue (historyOf records)) out
 

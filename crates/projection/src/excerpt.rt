@@ -10,8 +10,8 @@ ghost use Rattle.projection.specs.Marks.{entriesOf, TableOf, KeptAre};
 ghost use Rattle.projection.specs.Listed.{Listable, ValueAdded, ValuesAre};
 use crate::keep::Marks;
 use crate::keep::keep;
-use crate::write::Projected;
 use crate::write::write_kept;
+use buffer::output::Output;
 use history::operations::EMPTY_REMOVE;
 use history::operations::FIELDS;
 use history::operations::KIND;
@@ -79,14 +79,14 @@ fn write_excerpt(
     table: &Operations,
     count: usize,
     out: &mut [u8],
-) -> Projected
+) -> Output
     requires { ⌜ TableOf (now log) records count (now table) ⌝ }
     ensures { λ r. ⌜ (r ≡ excerptAnswer (readLog (now (log .entry))) (now (out .entry))) × (now (out .exit) ≡ excerptLeaves (readLog (now (log .entry))) (now (out .entry))) ⌝ }
 {
     let mut list = [0u32; MAX_RECORDS];
     let finding = decide(table, count, records, &mut list);
     if finding.verdict == ORDER {
-        return Projected::Refused {
+        return Output::Refused {
             number: NO_PATTERN,
             index: 0,
         };
@@ -98,12 +98,12 @@ fn write_excerpt(
 }
 
 // Writes the excerpt of a log: that of its first pattern.
-pub fn excerpt(log: &[u8], out: &mut [u8]) -> Projected
+pub fn excerpt(log: &[u8], out: &mut [u8]) -> Output
     ensures { λ r. ⌜ (r ≡ excerptAnswer (readLog (now (log .entry))) (now (out .entry))) × (now (out .exit) ≡ excerptLeaves (readLog (now (log .entry))) (now (out .entry))) ⌝ }
 {
     let mut table = [0u32; TABLE];
     match tabulate(log, &mut table) {
-        Checked::Refused { number, index } => Projected::Refused { number, index },
+        Checked::Refused { number, index } => Output::Refused { number, index },
         Checked::Readable {
             records,
             operations,

@@ -16,15 +16,10 @@ use crate::measure::if_marked;
 use crate::measure::measure;
 use buffer::buffer::BUFFER_TOO_SHORT;
 use buffer::buffer::copy;
+use buffer::output::Output;
 use reader::format::HEADER;
 use reader::format::MAX_RECORDS;
 use reader::format::VERSION;
-
-// The answer of a call that writes a log: how many bytes it wrote, or a refusal.
-pub enum Projected {
-    Written(usize),
-    Refused { number: u32, index: usize },
-}
 
 // Writes the header of a log of so many records.
 pub fn write_header(count: usize, out: &mut [u8])
@@ -56,25 +51,25 @@ fn write_records(log: &[u8], records: usize, marks: &Marks, out: &mut [u8])
 }
 
 // Writes the marked records of a readable log as a log.
-fn write_marked(log: &[u8], records: usize, marks: &Marks, out: &mut [u8]) -> Projected
+fn write_marked(log: &[u8], records: usize, marks: &Marks, out: &mut [u8]) -> Output
     requires { ⌜ Whole (now log) records ⌝ }
     ensures { λ r. ⌜ Writes (now (log .entry)) (marked (now (marks .entry))) (now (out .entry)) r (now (out .exit)) ⌝ }
 {
     let extent = measure(log, records, marks);
     let needed = HEADER + extent.bytes;
     if out.len() < needed {
-        return Projected::Refused {
+        return Output::Refused {
             number: BUFFER_TOO_SHORT,
             index: 0,
         };
     }
     write_header(extent.records, out);
     write_records(log, records, marks, out);
-    Projected::Written(needed)
+    Output::Written(needed)
 }
 
 // Writes the records of the kept operations of a readable log as a log.
-pub(crate) fn write_kept(log: &[u8], records: usize, kept: &Marks, out: &mut [u8]) -> Projected
+pub(crate) fn write_kept(log: &[u8], records: usize, kept: &Marks, out: &mut [u8]) -> Output
     requires { ⌜ Whole (now log) records ⌝ }
     ensures { λ r. ⌜ Writes (now (log .entry)) (keptRecords (now (kept .entry))) (now (out .entry)) r (now (out .exit)) ⌝ }
 {

@@ -113,7 +113,7 @@ run-writable {log} {past = past} (more {at = at} r next found ok rest) b =
     (r ∷ behind .0, behind .1 ∙ rw (reverse-cons r past, append-assoc (reverse past) (r ∷ []) (behind .0)) refl, Writable.more (small-there (decode-inverts log at found) b) ok (behind .2))
 
 -- records take at most 12 bytes each
-sizes-most : (records : List Record) → sizes records ≤ 12 * length records
+pub sizes-most : (records : List Record) → sizes records ≤ 12 * length records
 unfolding sizes
 sizes-most [] = omega arith
 sizes-most (r ∷ records) = omega (arith, sizes-most records, event-most (r .event))

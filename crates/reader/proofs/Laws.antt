@@ -25,8 +25,8 @@ use Rattle.reader.proofs.Run.{Admits, none, Read, reads, run-admits}
 pub use Rattle.reader.proofs.Orderly.{readable-orderly, orderly-readable}
 -- Bytes that are handed in as one record behind a log are a record's that can be written there exactly if nothing is wrong with them.
 pub use Rattle.reader.proofs.Feeding.{RecordBehind, faultless-short, faultless-is-record, record-is-faultless, writable-more}
--- the bytes of records with one more behind them
-pub use Rattle.reader.proofs.Bytes.{encode-snoc}
+-- the bytes of records with one more behind them, and how many records take at most
+pub use Rattle.reader.proofs.Bytes.{encode-snoc, sizes-most}
 
 -- what holds of the records as they were read, latest first, holds of the log's records
 read-regular : {log : List ℕ} {records : List Record} → Read log records → Regular records

@@ -1,4 +1,4 @@
--- The numbers in the answers of begin and feed are small.
+-- The numbers in the answers of feed are small.
 use Prim.Native.Nat.{ℕ, _+_, _≤_}
 use native.Mathlib.Omega.{arith}
 use mathlib.Core.Path.{_≡_, refl, sym}
@@ -10,35 +10,27 @@ use lib.Seq.{length-take-le}
 use borrow.Author.Tests.{eqb-true, eqb-false}
 use Rattle.record.specs.Choice.{if_then_else_}
 use Rattle.record.specs.declared.record.Record.{Record}
-use Rattle.buffer.specs.Buffer.{bufferTooShort, lacksRoom}
+use Rattle.buffer.specs.Buffer.{bufferTooShort}
+use Rattle.buffer.specs.declared.output.Output.{Output}
+use Rattle.buffer.specs.declared.output.Output.the-variants.{Written, Refused}
 use Rattle.reader.specs.Log.{maxRecords, maxLength, Reading, readable, refused, readPartial}
 use Rattle.reader.specs.Feed.{faultBehind, extended}
 use Rattle.reader.specs.declared.log.Extension.{Extension}
 use Rattle.reader.specs.declared.log.Extension.the-variants.{Unreadable, Full, Faulty, Fits}
 use Rattle.reader.proofs.Laws.{partial-log, faultless-short}
-use Rattle.session.specs.Session.{openStage, heldLog, stageRefusal, emptyLog, beginAnswer, fedAnswer, feedAnswer}
-use Rattle.session.specs.declared.answer.Answer.{Answer}
-use Rattle.session.specs.declared.answer.Answer.the-variants.{Accepted, Refused}
+use Rattle.session.specs.Session.{openStage, heldLog, stageRefusal, fedAnswer, feedAnswer}
 use Rattle.session.proofs.Refusing.{unrefused-within}
 
--- An accepted answer is the number of bytes of a record, or of the header, behind a log that is not too long; a refusal has a number and an index of
--- at most 1,024.
-abbrev pub AnswerWithin : ℕ → Answer → Type 0
-AnswerWithin used (Accepted n) = (n ≤ 12) × (used ≤ maxLength)
+-- An accepted feed writes the bytes of a record behind a log that is not too long; a refusal has a number and an index of at most 1,024.
+abbrev pub AnswerWithin : ℕ → Output → Type 0
+AnswerWithin used (Written n) = (n ≤ 12) × (used ≤ maxLength)
 AnswerWithin used (Refused number index) = (1 ≤ number) × (index ≤ maxRecords)
-
-pub begin-within : (buffer : List ℕ) → AnswerWithin 0 (beginAnswer buffer)
-begin-within buffer = go (lacksRoom emptyLog buffer)
-  where
-    go : (t : Bool) → AnswerWithin 0 (if t then Refused bufferTooShort 0 else Accepted 3)
-    go true = (omega arith, omega arith)
-    go false = (omega arith, omega arith)
 
 pub feed-within : (stage used : ℕ) (buffer bytes : List ℕ) → AnswerWithin used (feedAnswer stage used buffer bytes)
 unfolding feedAnswer
 feed-within stage used buffer bytes = standing (eqb (stageRefusal openStage stage used buffer) 0) refl
   where
-    roomy : (lacks : Bool) (records : List Record) → faultBehind (reverse records) bytes ≡ 0 → used ≤ maxLength → AnswerWithin used (if lacks then Refused bufferTooShort 0 else Accepted (length bytes))
+    roomy : (lacks : Bool) (records : List Record) → faultBehind (reverse records) bytes ≡ 0 → used ≤ maxLength → AnswerWithin used (if lacks then Refused bufferTooShort 0 else Written (length bytes))
     roomy true records z l = (omega arith, omega arith)
     roomy false records z l = (faultless-short (reverse records) bytes z, l)
 
@@ -60,45 +52,27 @@ feed-within stage used buffer bytes = standing (eqb (stageRefusal openStage stag
     standing false t = (omega (arith, eqb-false (stageRefusal openStage stage used buffer) 0 t), omega arith)
 
 -- what an accepted feed returns: as many bytes as it has
-pub accepted-length : (stage used : ℕ) (buffer bytes : List ℕ) {n : ℕ} → feedAnswer stage used buffer bytes ≡ Accepted n → n ≡ length bytes
+pub accepted-length : (stage used : ℕ) (buffer bytes : List ℕ) {n : ℕ} → feedAnswer stage used buffer bytes ≡ Written n → n ≡ length bytes
 unfolding feedAnswer
 accepted-length stage used buffer bytes {n} e = standing (eqb (stageRefusal openStage stage used buffer) 0) e
   where
-    roomy : (lacks : Bool) → (if lacks then Refused bufferTooShort 0 else Accepted (length bytes)) ≡ Accepted n → n ≡ length bytes
+    roomy : (lacks : Bool) → (if lacks then Refused bufferTooShort 0 else Written (length bytes)) ≡ Written n → n ≡ length bytes
     roomy true e = let z : _≡_ {A = ℕ} 0 1 = cc in absurd (omega arith)
     roomy false e = cc
 
-    fits : (x : Extension) → fedAnswer x used buffer bytes ≡ Accepted n → n ≡ length bytes
+    fits : (x : Extension) → fedAnswer x used buffer bytes ≡ Written n → n ≡ length bytes
     fits Unreadable e = let z : _≡_ {A = ℕ} 0 1 = cc in absurd (omega arith)
     fits Full e = let z : _≡_ {A = ℕ} 0 1 = cc in absurd (omega arith)
     fits (Faulty number records) e = let z : _≡_ {A = ℕ} 0 1 = cc in absurd (omega arith)
     fits (Fits records) e = roomy (ltb (length buffer) (used + length bytes)) e
 
-    standing : (t : Bool) → (if not t then Refused (stageRefusal openStage stage used buffer) 0 else fedAnswer (extended (readPartial (heldLog used buffer)) bytes) used buffer bytes) ≡ Accepted n → n ≡ length bytes
+    standing : (t : Bool) → (if not t then Refused (stageRefusal openStage stage used buffer) 0 else fedAnswer (extended (readPartial (heldLog used buffer)) bytes) used buffer bytes) ≡ Written n → n ≡ length bytes
     standing true e = fits (extended (readPartial (heldLog used buffer)) bytes) e
     standing false e = let z : _≡_ {A = ℕ} 0 1 = cc in absurd (omega arith)
 
--- the same bounds, by the answer's case
-pub accepted-small : (stage used : ℕ) (buffer bytes : List ℕ) {n : ℕ} → Accepted n ≡ feedAnswer stage used buffer bytes → (n ≤ 12) × (used ≤ maxLength)
+-- the same bounds, of an accepted feed
+pub accepted-small : (stage used : ℕ) (buffer bytes : List ℕ) {n : ℕ} → Written n ≡ feedAnswer stage used buffer bytes → (n ≤ 12) × (used ≤ maxLength)
 accepted-small stage used buffer bytes {n} e = go (rw (sym e) at (feed-within stage used buffer bytes))
   where
-    go : AnswerWithin used (Accepted n) → (n ≤ 12) × (used ≤ maxLength)
+    go : AnswerWithin used (Written n) → (n ≤ 12) × (used ≤ maxLength)
     go small = small
-
-pub refused-small : (stage used : ℕ) (buffer bytes : List ℕ) {number index : ℕ} → Refused number index ≡ feedAnswer stage used buffer bytes → index ≤ maxRecords
-refused-small stage used buffer bytes {number} {index} e = go (rw (sym e) at (feed-within stage used buffer bytes))
-  where
-    go : AnswerWithin used (Refused number index) → index ≤ maxRecords
-    go small = small .1
-
-pub begun-small : (buffer : List ℕ) {n : ℕ} → Accepted n ≡ beginAnswer buffer → n ≤ 12
-begun-small buffer {n} e = go (rw (sym e) at (begin-within buffer))
-  where
-    go : AnswerWithin 0 (Accepted n) → n ≤ 12
-    go small = small .0
-
-pub unbegun-small : (buffer : List ℕ) {number index : ℕ} → Refused number index ≡ beginAnswer buffer → index ≤ maxRecords
-unbegun-small buffer {number} {index} e = go (rw (sym e) at (begin-within buffer))
-  where
-    go : AnswerWithin 0 (Refused number index) → index ≤ maxRecords
-    go small = small .1

@@ -9,6 +9,8 @@ use borrow.Author.Tests.{le-ltb}
 use Rattle.record.specs.Number.{bytesOf, Bytes}
 use Rattle.record.specs.Record.{encode, sizeOf, Small}
 use Rattle.record.specs.declared.record.Record.{Record}
+use Rattle.buffer.specs.declared.output.Output.{Output}
+use Rattle.buffer.specs.declared.output.Output.the-variants.{Written, Refused}
 use Rattle.reader.specs.Log.{headerLength, maxRecords, Reading, readable, refused, readPartial, readLog, fault, encodeAll, encodeLog}
 use Rattle.reader.specs.Readable.{sizes, Writable}
 use Rattle.reader.proofs.Bytes.{sizes-snoc}
@@ -18,12 +20,10 @@ use Rattle.judge.specs.declared.judge.Verdict.{Verdict}
 use Rattle.judge.specs.declared.judge.Verdict.the-variants as judge
 use Rattle.session.specs.Session.{openStage, closedStage, beginAnswer, stageClosed, usedFed, fedBuffer}
 use Rattle.session.specs.Course.{Lent, begun, answerTo, afterFeed, afterClose, Closes, ifAccepted, Since, just-begun, then-fed, then-closed, afterFeeds, answersTo, joined, logOf}
-use Rattle.session.specs.declared.answer.Answer.{Answer}
-use Rattle.session.specs.declared.answer.Answer.the-variants.{Accepted, Refused}
 use Rattle.session.proofs.Holding.{Holding, refused-leaves, accepted-takes, fitting-taken, holding-closes, closed-refuses-feed, closed-refuses-close}
 
 -- a session that was begun holds no records
-pub begun-holds : (buffer : List ℕ) → headerLength ≤ length buffer → (beginAnswer buffer ≡ Accepted headerLength) × Holding (begun buffer) [] (drop headerLength buffer)
+pub begun-holds : (buffer : List ℕ) → headerLength ≤ length buffer → (beginAnswer buffer ≡ Written headerLength) × Holding (begun buffer) [] (drop headerLength buffer)
 unfolding bytesOf encodeAll
 begun-holds buffer room =
     let fits = le-ltb (length buffer) headerLength room in
@@ -72,9 +72,9 @@ module _ {buffer : List ℕ} where
       unfed : {number index : ℕ} → answerTo s bytes ≡ Refused number index → accepted ++ ifAccepted (answerTo s bytes) bytes ≡ accepted
       unfed e = ap (λ a. accepted ++ ifAccepted a bytes) e ∙ append-nil accepted
 
-      by-answer : Holding s (g .fed) (rest buffer (g .fed)) → (a : Answer) → answerTo s bytes ≡ a → Grown buffer (accepted ++ ifAccepted (answerTo s bytes) bytes) (afterFeed s bytes)
+      by-answer : Holding s (g .fed) (rest buffer (g .fed)) → (a : Output) → answerTo s bytes ≡ a → Grown buffer (accepted ++ ifAccepted (answerTo s bytes) bytes) (afterFeed s bytes)
       by-answer h (Refused number index) e = record { fed = g .fed; accepted-are = unfed e ∙ g .accepted-are; stands = open-with (refused-leaves h bytes e) }
-      by-answer h (Accepted n) e =
+      by-answer h (Written n) e =
           let t = accepted-takes h bytes b e in
           let more : accepted ++ (bytes ∷ []) ≡ map encode (g .fed ++ (t .is ∷ [])) = ap (λ xs. xs ++ (bytes ∷ [])) (g .accepted-are) ∙ ap (λ x. map encode (g .fed) ++ (x ∷ [])) (t .bytes-are) ∙ sym (map-append encode (g .fed) (t .is ∷ [])) in
           let behind : drop (sizeOf (t .is)) (rest buffer (g .fed)) ≡ rest buffer (g .fed ++ (t .is ∷ [])) =
@@ -124,7 +124,7 @@ first-fits {past} (x ∷ done) after (Writable.more small ok others) = let (fits
 
 -- Records that can be written behind those that are held, and for which there is room, are all accepted.
 pub records-taken : {s : Lent} {done : List Record} {behind : List ℕ} → Holding s done behind → (records : List Record) → Writable [] (done ++ records) → length (done ++ records) ≤ maxRecords → sizes records ≤ length behind
-    → (answersTo s (map encode records) ≡ map (λ r. Accepted (sizeOf r)) records) × Holding (afterFeeds s (map encode records)) (done ++ records) (drop (sizes records) behind)
+    → (answersTo s (map encode records) ≡ map (λ r. Written (sizeOf r)) records) × Holding (afterFeeds s (map encode records)) (done ++ records) (drop (sizes records) behind)
 unfolding afterFeeds answersTo sizes
 records-taken {s} {done} {behind} h [] w few room = (refl, rw (append-nil done) h)
 records-taken {s} {done} {behind} h (r ∷ records) w few room =
@@ -132,16 +132,16 @@ records-taken {s} {done} {behind} h (r ∷ records) w few room =
     let (accepted, held) = fitting-taken h r small (rw (append-nil (reverse done)) at ok) (omega (arith, length-append done (r ∷ records))) (omega arith) in
     let joins : (done ++ (r ∷ [])) ++ records ≡ done ++ (r ∷ records) = append-assoc done (r ∷ []) records in
     let (answers, holding) = records-taken held records (subst (Writable []) (sym joins) w) (omega (arith, ap length joins)) (omega (arith, length-drop (sizeOf r) behind)) in
-    (ap (λ a. a ∷ answersTo (afterFeed s (encode r)) (map encode records)) accepted ∙ ap (λ others. Accepted (sizeOf r) ∷ others) answers, rw (joins, drop-drop (sizes records) (sizeOf r) behind) at holding)
+    (ap (λ a. a ∷ answersTo (afterFeed s (encode r)) (map encode records)) accepted ∙ ap (λ others. Written (sizeOf r) ∷ others) answers, rw (joins, drop-drop (sizes records) (sizeOf r) behind) at holding)
 
 -- the feeds that are accepted are those whose answers say so
-pub all-accepted : {buffer : List ℕ} {accepted : List (List ℕ)} {s : Lent} → Since buffer accepted s → (records : List Record) → ((r : Record) → Bytes (encode r)) → answersTo s (map encode records) ≡ map (λ r. Accepted (sizeOf r)) records
+pub all-accepted : {buffer : List ℕ} {accepted : List (List ℕ)} {s : Lent} → Since buffer accepted s → (records : List Record) → ((r : Record) → Bytes (encode r)) → answersTo s (map encode records) ≡ map (λ r. Written (sizeOf r)) records
     → Since buffer (accepted ++ map encode records) (afterFeeds s (map encode records))
 unfolding afterFeeds answersTo
 all-accepted {accepted = accepted} since [] bytes e = rw (append-nil accepted) since
 all-accepted {buffer} {accepted} {s} since (r ∷ records) bytes e =
-    let first : answerTo s (encode r) ≡ Accepted (sizeOf r) = cc in
-    let others : answersTo (afterFeed s (encode r)) (map encode records) ≡ map (λ r. Accepted (sizeOf r)) records = cc in
+    let first : answerTo s (encode r) ≡ Written (sizeOf r) = cc in
+    let others : answersTo (afterFeed s (encode r)) (map encode records) ≡ map (λ r. Written (sizeOf r)) records = cc in
     let one : Since buffer (accepted ++ (encode r ∷ [])) (afterFeed s (encode r)) = subst (λ a. Since buffer (accepted ++ ifAccepted a (encode r)) (afterFeed s (encode r))) first (then-fed since (encode r) (bytes r)) in
     subst (λ l. Since buffer l (afterFeeds (afterFeed s (encode r)) (map encode records))) (append-assoc accepted (encode r ∷ []) (map encode records)) (all-accepted one records bytes others)
 

@@ -15,6 +15,7 @@ use Rattle.record.specs.declared.record.Record.{Record}
 use Rattle.record.proofs.Numbers.{number-there}
 use Rattle.record.proofs.Laws.{encode-length}
 use Rattle.buffer.specs.Buffer.{bufferTooShort, put}
+use Rattle.buffer.specs.declared.output.Output.the-variants.{Written, Refused}
 use Rattle.reader.specs.Log.{logVersion, maxRecords, countField, withCount, fault, readable, refused, readPartial, readLog, encodeAll, encodeLog}
 use Rattle.reader.specs.Feed.{faultBehind, extended}
 use Rattle.reader.specs.Readable.{Writable}
@@ -25,7 +26,6 @@ use Rattle.judge.specs.declared.judge.Verdict.{Verdict}
 use Rattle.session.specs.Session.{openStage, closedStage, sessionClosed, stageClosed, heldLog, stageRefusal, sessionReading, fedAnswer, feedAnswer, fedBuffer, usedFed}
 use Rattle.session.specs.Course.{Lent, answerTo, afterFeed}
 use Rattle.session.proofs.Refusing.{open-unrefused, open-reading}
-use Rattle.session.specs.declared.answer.Answer.the-variants.{Accepted, Refused}
 
 -- bytes put over what stands behind others
 put-over : (front bytes rest : List ℕ) → put (length front) bytes (front ++ rest) ≡ front ++ bytes ++ drop (length bytes) rest
@@ -91,7 +91,7 @@ module _ {s : Lent} {records : List Record} {rest : List ℕ} (h : Holding s rec
   }
 
   -- a record that fits, and for whose bytes there is room, then stands behind the others
-  grows : (r : Record) → Small r → fault (reverse records) r ≡ 0 → length records < maxRecords → answerTo s (encode r) ≡ Accepted (length (encode r)) → Holding (afterFeed s (encode r)) (records ++ (r ∷ [])) (drop (sizeOf r) rest)
+  grows : (r : Record) → Small r → fault (reverse records) r ≡ 0 → length records < maxRecords → answerTo s (encode r) ≡ Written (length (encode r)) → Holding (afterFeed s (encode r)) (records ++ (r ∷ [])) (drop (sizeOf r) rest)
   unfolding bytesOf
   grows r small ok room e = record {
     stage-is = h .stage-is;
@@ -108,42 +108,42 @@ module _ {s : Lent} {records : List Record} {rest : List ℕ} (h : Holding s rec
     pub count : n ≡ sizeOf is
     pub holding : Holding (afterFeed s bytes) (records ++ (is ∷ [])) (drop (sizeOf is) rest)
 
-  pub accepted-takes : (bytes : List ℕ) → Bytes bytes → {n : ℕ} → answerTo s bytes ≡ Accepted n → Taken bytes n
+  pub accepted-takes : (bytes : List ℕ) → Bytes bytes → {n : ℕ} → answerTo s bytes ≡ Written n → Taken bytes n
   accepted-takes bytes b {n} e = full (leb maxRecords (length records)) (eqb (faultBehind (reverse records) bytes) 0) refl refl (sym (feed-is bytes) ∙ e)
     where
-      never : {number index : ℕ} → Refused number index ≡ Accepted n → Taken bytes n
+      never : {number index : ℕ} → Refused number index ≡ Written n → Taken bytes n
       never e = let z : _≡_ {A = ℕ} 0 1 = cc in absurd (omega arith)
 
-      roomy : (lacks : Bool) → leb maxRecords (length records) ≡ false → faultBehind (reverse records) bytes ≡ 0 → (if lacks then Refused bufferTooShort 0 else Accepted (length bytes)) ≡ Accepted n → Taken bytes n
+      roomy : (lacks : Bool) → leb maxRecords (length records) ≡ false → faultBehind (reverse records) bytes ≡ 0 → (if lacks then Refused bufferTooShort 0 else Written (length bytes)) ≡ Written n → Taken bytes n
       roomy true l z e = never e
       roomy false l z f =
           let behind = faultless-is-record (reverse records) bytes b z in
           let same : n ≡ length bytes = cc in
-          let taken : answerTo s bytes ≡ Accepted (length bytes) = e ∙ ap Accepted same in
+          let taken : answerTo s bytes ≡ Written (length bytes) = e ∙ ap Written same in
           record {
             is = behind .is;
             bytes-are = behind .bytes-are;
             count = same ∙ ap length (behind .bytes-are) ∙ encode-length (behind .is);
             holding = subst (λ x. Holding (afterFeed s x) (records ++ (behind .is ∷ [])) (drop (sizeOf (behind .is)) rest)) (sym (behind .bytes-are))
-                (grows (behind .is) (behind .small) (behind .ok) (leb-false maxRecords (length records) l) (subst (λ x. answerTo s x ≡ Accepted (length x)) (behind .bytes-are) taken));
+                (grows (behind .is) (behind .small) (behind .ok) (leb-false maxRecords (length records) l) (subst (λ x. answerTo s x ≡ Written (length x)) (behind .bytes-are) taken));
           }
 
       full : (a ok : Bool) → leb maxRecords (length records) ≡ a → eqb (faultBehind (reverse records) bytes) 0 ≡ ok
-          → fedAnswer (if a then Full else if not ok then Faulty (faultBehind (reverse records) bytes) (length records) else Fits (length records)) (length log) (log ++ rest) bytes ≡ Accepted n → Taken bytes n
+          → fedAnswer (if a then Full else if not ok then Faulty (faultBehind (reverse records) bytes) (length records) else Fits (length records)) (length log) (log ++ rest) bytes ≡ Written n → Taken bytes n
       full true ok l z e = never e
       full false false l z e = never e
       full false true l z e = roomy (ltb (length (log ++ rest)) (length log + length bytes)) l (eqb-true (faultBehind (reverse records) bytes) 0 z) e
 
   -- and a record that fits is taken, if there is room
   pub fitting-taken : (r : Record) → Small r → fault (reverse records) r ≡ 0 → length records < maxRecords → sizeOf r ≤ length rest
-      → (answerTo s (encode r) ≡ Accepted (sizeOf r)) × Holding (afterFeed s (encode r)) (records ++ (r ∷ [])) (drop (sizeOf r) rest)
+      → (answerTo s (encode r) ≡ Written (sizeOf r)) × Holding (afterFeed s (encode r)) (records ++ (r ∷ [])) (drop (sizeOf r) rest)
   fitting-taken r small ok room fits =
-      let accepted : answerTo s (encode r) ≡ Accepted (length (encode r)) = feed-is (encode r) ∙ rw (
+      let accepted : answerTo s (encode r) ≡ Written (length (encode r)) = feed-is (encode r) ∙ rw (
         lt-leb maxRecords (length records) room,
         record-is-faultless (reverse records) r small ok,
         le-ltb (length (log ++ rest)) (length log + length (encode r)) (omega (arith, length-append log rest, encode-length r)),
       ) refl in
-      (accepted ∙ ap Accepted (encode-length r), grows r small ok room accepted)
+      (accepted ∙ ap Written (encode-length r), grows r small ok room accepted)
 
   -- closing it judges the log
   pub holding-closes : sessionReading openStage (s .stage) (s .used) (s .buffer) ≡ readLog log

@@ -8,6 +8,7 @@ use lib.Seq.{take-append-seam, drop-append-seam, drop-drop}
 use Rattle.record.specs.Number.{bytesOf, Bytes}
 use Rattle.record.specs.Record.{encode, sizeOf}
 use Rattle.record.specs.declared.record.Record.{Record}
+use Rattle.buffer.specs.declared.output.Output.the-variants.{Written}
 use Rattle.reader.specs.Log.{headerLength, Reading, readable, readPartial, readLog, encodeAll, encodeLog}
 use Rattle.reader.specs.Readable.{sizes}
 use Rattle.reader.proofs.Laws.{partial-log, written-log}
@@ -16,13 +17,11 @@ use Rattle.judge.specs.declared.judge.Verdict.{Verdict}
 use Rattle.judge.specs.declared.judge.Verdict.the-variants.{Order, Pattern}
 use Rattle.judge.proofs.Laws.{judged-determined}
 use Rattle.projection.specs.Outcome.{excerptAnswer, excerptLeaves}
-use Rattle.projection.specs.declared.write.Projected.the-variants.{Written}
 use Rattle.projection.proofs.Sizes.{log-length}
 use Rattle.archive.specs.Archive.{Archive, with-order, with-pattern}
 use Rattle.archive.proofs.Laws.{archive-one}
 use Rattle.session.specs.Session.{openStage, closedStage, heldLog, sessionReading, emptyLog, beginAnswer}
 use Rattle.session.specs.Course.{Lent, begun, Closes, Since, just-begun, logOf, Standing, is-open, is-closed, HoldsFed, afterFeeds, answersTo}
-use Rattle.session.specs.declared.answer.Answer.the-variants.{Accepted}
 use Rattle.session.proofs.Refusing.{open-reading, closed-reading}
 use Rattle.session.proofs.Bytes.{record-bytes}
 use Rattle.session.proofs.Holding.{Holding}
@@ -124,19 +123,19 @@ module _ (log buffer : List ℕ) (bytes : Bytes log) (records : List Record) (re
   long : headerLength + sizes records ≡ length log
   long = sym (log-length records) ∙ ap length same-log
 
-  begins : (beginAnswer buffer ≡ Accepted headerLength) × Holding (begun buffer) [] (drop headerLength buffer)
+  begins : (beginAnswer buffer ≡ Written headerLength) × Holding (begun buffer) [] (drop headerLength buffer)
   begins = begun-holds buffer (omega (arith, long))
 
-  taken : (answersTo (begun buffer) (map encode records) ≡ map (λ r. Accepted (sizeOf r)) records) × Holding fed records (drop (sizes records) (drop headerLength buffer))
+  taken : (answersTo (begun buffer) (map encode records) ≡ map (λ r. Written (sizeOf r)) records) × Holding fed records (drop (sizes records) (drop headerLength buffer))
   taken =
       let whole = partial-log log records reads in
       records-taken (begins .1) records (whole .writable bytes) (whole .regular .few) (omega (arith, long, length-drop headerLength buffer))
 
   -- beginning and every feed are accepted, and a feed returns 1 + L
-  pub begin-accepted : beginAnswer buffer ≡ Accepted headerLength
+  pub begin-accepted : beginAnswer buffer ≡ Written headerLength
   begin-accepted = begins .0
 
-  pub feeds-accepted : answersTo (begun buffer) (map encode records) ≡ map (λ r. Accepted (sizeOf r)) records
+  pub feeds-accepted : answersTo (begun buffer) (map encode records) ≡ map (λ r. Written (sizeOf r)) records
   feeds-accepted = taken .0
 
   -- the session is then open, and what the laws above say of the log fed so far they say of this log

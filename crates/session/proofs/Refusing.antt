@@ -12,6 +12,8 @@ use Rattle.record.specs.Choice.{if_then_else_}
 use Rattle.record.specs.Number.{bigEndian, bytesOf}
 use Rattle.record.specs.declared.record.Record.{Record}
 use Rattle.buffer.specs.Buffer.{bufferTooShort, put}
+use Rattle.buffer.specs.declared.output.Output.{Output}
+use Rattle.buffer.specs.declared.output.Output.the-variants.{Written, Refused}
 use Rattle.reader.specs.Log.{logVersion, headerLength, maxRecords, countField, withCount, Reading, readable, refused, readPartial, readLog, checked}
 use Rattle.reader.specs.Feed.{faultBehind, extended}
 use Rattle.reader.specs.declared.log.Extension.{Extension}
@@ -19,8 +21,6 @@ use Rattle.reader.specs.declared.log.Extension.the-variants.{Full, Faulty, Fits
 use Rattle.reader.proofs.Laws.{partial-log}
 use Rattle.reader.proofs.Run.{reads}
 use Rattle.session.specs.Session.{openStage, closedStage, sessionUnfit, heldLog, isReadable, sessionFits, stageRefusal, sessionReading, beginLeaves, fedAnswer, feedAnswer, fedBuffer, feedLeaves}
-use Rattle.session.specs.declared.answer.Answer.{Answer}
-use Rattle.session.specs.declared.answer.Answer.the-variants.{Accepted, Refused}
 
 -- the stores of the count, and of an empty log
 pub count-put : (count : ℕ) (buffer : List ℕ) → count ≤ maxRecords → headerLength ≤ length buffer → set (set buffer 1 (count / 256)) 2 (count % 256) ≡ withCount count buffer
@@ -105,7 +105,7 @@ module _ (used : ℕ) (buffer : List ℕ) (within : used ≤ length buffer) {rec
 -- Feeds, by their tests.
 module _ (stage used : ℕ) (buffer bytes : List ℕ) where
   -- the answer, with what is left of the buffer
-  pub answered : {a : Answer} → feedAnswer stage used buffer bytes ≡ a → (a ≡ feedAnswer stage used buffer bytes) × (fedBuffer a used buffer bytes ≡ feedLeaves stage used buffer bytes)
+  pub answered : {a : Output} → feedAnswer stage used buffer bytes ≡ a → (a ≡ feedAnswer stage used buffer bytes) × (fedBuffer a used buffer bytes ≡ feedLeaves stage used buffer bytes)
   answered e = (sym e, ap (λ a. fedBuffer a used buffer bytes) (sym e))
 
   -- a session that is not open is refused by how it stands
@@ -143,10 +143,10 @@ module _ (stage used : ℕ) (buffer bytes : List ℕ) where
         pub feed-lacks-room : length buffer - used < length bytes → feedAnswer stage used buffer bytes ≡ Refused bufferTooShort 0
         feed-lacks-room l = feed-open fits ∙ rw (lt-ltb (length buffer) (used + length bytes) (omega arith)) refl
 
-        pub feed-accepted : length bytes ≤ length buffer - used → feedAnswer stage used buffer bytes ≡ Accepted (length bytes)
+        pub feed-accepted : length bytes ≤ length buffer - used → feedAnswer stage used buffer bytes ≡ Written (length bytes)
         feed-accepted l = feed-open fits ∙ rw (le-ltb (length buffer) (used + length bytes) (omega arith)) refl
 
         -- with one more in the count, and the bytes behind those that are used
         pub feed-written : length bytes ≤ length buffer - used
-            → (Accepted (length bytes) ≡ feedAnswer stage used buffer bytes) × (put used bytes (withCount (n + 1) buffer) ≡ feedLeaves stage used buffer bytes)
+            → (Written (length bytes) ≡ feedAnswer stage used buffer bytes) × (put used bytes (withCount (n + 1) buffer) ≡ feedLeaves stage used buffer bytes)
         feed-written l = let (answer, left) = answered (feed-accepted l) in (answer, rw (fits-counted used buffer bytes within fits .count) at left)

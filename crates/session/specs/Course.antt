@@ -6,12 +6,12 @@ use mathlib.Core.List.{List, [], _∷_, _++_}
 use lib.ListN.{length, drop}
 use Rattle.record.specs.Number.{bytesOf, Bytes}
 use Rattle.record.specs.declared.record.Record.{Record}
+use Rattle.buffer.specs.declared.output.Output.{Output}
+use Rattle.buffer.specs.declared.output.Output.the-variants.{Written, Refused}
 use Rattle.reader.specs.Log.{logVersion, headerLength, readable, readPartial, readLog}
 use Rattle.judge.specs.Judge.{Judges}
 use Rattle.judge.specs.declared.judge.Verdict.{Verdict}
 use Rattle.session.specs.Session.{openStage, closedStage, heldLog, sessionReading, emptyLog, beginLeaves, feedAnswer, feedLeaves, usedFed, stageClosed}
-use Rattle.session.specs.declared.answer.Answer.{Answer}
-use Rattle.session.specs.declared.answer.Answer.the-variants.{Accepted, Refused}
 
 -- a session and the buffer that is lent to it
 pub record Lent : Type 0 where
@@ -24,7 +24,7 @@ abbrev pub begun : List ℕ → Lent
 begun buffer = record { stage = openStage; used = length emptyLog; buffer = beginLeaves buffer }
 
 -- a feed: its answer, and what it leaves
-abbrev pub answerTo : Lent → List ℕ → Answer
+abbrev pub answerTo : Lent → List ℕ → Output
 answerTo s bytes = feedAnswer (s .stage) (s .used) (s .buffer) bytes
 
 abbrev pub afterFeed : Lent → List ℕ → Lent
@@ -38,8 +38,8 @@ abbrev pub afterClose : Lent → Verdict → Lent
 afterClose s answer = record { stage = stageClosed (s .stage) answer; used = s .used; buffer = s .buffer }
 
 -- the bytes of a feed, if it is accepted
-abbrev pub ifAccepted : Answer → List ℕ → List (List ℕ)
-ifAccepted (Accepted n) bytes = bytes ∷ []
+abbrev pub ifAccepted : Output → List ℕ → List (List ℕ)
+ifAccepted (Written n) bytes = bytes ∷ []
 ifAccepted (Refused number index) bytes = []
 
 -- What a session has gone through since it was begun in a buffer, feeds and closings, accepted or refused, in any order; and the bytes of the feeds that
@@ -74,6 +74,6 @@ unfoldable pub afterFeeds : Lent → List (List ℕ) → Lent
 afterFeeds s [] = s
 afterFeeds s (bytes ∷ feeds) = afterFeeds (afterFeed s bytes) feeds
 
-unfoldable pub answersTo : Lent → List (List ℕ) → List Answer
+unfoldable pub answersTo : Lent → List (List ℕ) → List Output
 answersTo s [] = []
 answersTo s (bytes ∷ feeds) = answerTo s bytes ∷ answersTo (afterFeed s bytes) feeds

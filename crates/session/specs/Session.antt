@@ -6,7 +6,10 @@ use mathlib.Core.List.{List, [], _∷_}
 use lib.ListN.{length, take}
 use lib.Dec.{ltb, eqb}
 use Rattle.record.specs.Choice.{if_then_else_}
-use Rattle.buffer.specs.Buffer.{bufferTooShort, lacksRoom, written, put}
+use Rattle.buffer.specs.Buffer.{bufferTooShort, written, put}
+use Rattle.buffer.specs.Output.{writing}
+use Rattle.buffer.specs.declared.output.Output.{Output}
+use Rattle.buffer.specs.declared.output.Output.the-variants.{Written, Refused}
 use Rattle.reader.specs.Log.{countField, withCount, Reading, refused, readPartial, readLog, checked}
 use Rattle.reader.specs.Feed.{extended}
 use Rattle.reader.specs.declared.log.Checked.{Checked}
@@ -15,8 +18,6 @@ use Rattle.reader.specs.declared.log.Extension.{Extension}
 use Rattle.reader.specs.declared.log.Extension.the-variants.{Unreadable, Full, Faulty, Fits}
 use Rattle.judge.specs.declared.judge.Verdict.{Verdict}
 use Rattle.judge.specs.declared.judge.Verdict.the-variants as judge
-use Rattle.session.specs.declared.answer.Answer.{Answer}
-use Rattle.session.specs.declared.answer.Answer.the-variants.{Accepted, Refused}
 
 -- "A session carries its stage, open or closed"
 abbrev pub openStage : ℕ
@@ -77,44 +78,44 @@ sessionReading wanted stage used buffer =
 abbrev pub emptyLog : List ℕ
 emptyLog = 1 ∷ 0 ∷ 0 ∷ []
 
-abbrev pub beginAnswer : List ℕ → Answer
-beginAnswer buffer = if lacksRoom emptyLog buffer then Refused bufferTooShort 0 else Accepted (length emptyLog)
+abbrev pub beginAnswer : List ℕ → Output
+beginAnswer buffer = writing emptyLog buffer
 
 abbrev pub beginLeaves : List ℕ → List ℕ
 beginLeaves buffer = written emptyLog buffer
 
 -- the stage and the used bytes behind begin: an open session over the empty log, or as they were
-abbrev pub stageBegun : ℕ → Answer → ℕ
-stageBegun stage (Accepted n) = openStage
+abbrev pub stageBegun : ℕ → Output → ℕ
+stageBegun stage (Written n) = openStage
 stageBegun stage (Refused number index) = stage
 
-abbrev pub usedBegun : ℕ → Answer → ℕ
-usedBegun used (Accepted n) = n
+abbrev pub usedBegun : ℕ → Output → ℕ
+usedBegun used (Written n) = n
 usedBegun used (Refused number index) = used
 
 -- Feed: "25, 20, 21, the input list, 24". What the bytes come to behind the log that is held (that it is not readable is known before):
-abbrev pub fedAnswer : Extension → ℕ → List ℕ → List ℕ → Answer
+abbrev pub fedAnswer : Extension → ℕ → List ℕ → List ℕ → Output
 fedAnswer Unreadable used buffer bytes = Refused sessionUnfit 0
 fedAnswer Full used buffer bytes = Refused sessionFull 0
 fedAnswer (Faulty number records) used buffer bytes = Refused number records
-fedAnswer (Fits records) used buffer bytes = if ltb (length buffer) (used + length bytes) then Refused bufferTooShort 0 else Accepted (length bytes)
+fedAnswer (Fits records) used buffer bytes = if ltb (length buffer) (used + length bytes) then Refused bufferTooShort 0 else Written (length bytes)
 
-unfoldable pub feedAnswer : ℕ → ℕ → List ℕ → List ℕ → Answer
+unfoldable pub feedAnswer : ℕ → ℕ → List ℕ → List ℕ → Output
 feedAnswer stage used buffer bytes =
     if not (eqb (stageRefusal openStage stage used buffer) 0) then Refused (stageRefusal openStage stage used buffer) 0 else
     fedAnswer (extended (readPartial (heldLog used buffer)) bytes) used buffer bytes
 
 -- "each accepted feed alters only these, the count in the lent buffer and the bytes just behind the used ones"
-abbrev pub fedBuffer : Answer → ℕ → List ℕ → List ℕ → List ℕ
-fedBuffer (Accepted n) used buffer bytes = put used bytes (withCount (countField buffer + 1) buffer)
+abbrev pub fedBuffer : Output → ℕ → List ℕ → List ℕ → List ℕ
+fedBuffer (Written n) used buffer bytes = put used bytes (withCount (countField buffer + 1) buffer)
 fedBuffer (Refused number index) used buffer bytes = buffer
 
 abbrev pub feedLeaves : ℕ → ℕ → List ℕ → List ℕ → List ℕ
 feedLeaves stage used buffer bytes = fedBuffer (feedAnswer stage used buffer bytes) used buffer bytes
 
 -- the used bytes behind a feed; the stage is as it was
-abbrev pub usedFed : ℕ → Answer → ℕ
-usedFed used (Accepted n) = used + n
+abbrev pub usedFed : ℕ → Output → ℕ
+usedFed used (Written n) = used + n
 usedFed used (Refused number index) = used
 
 -- Close: "Closing alters only the stage." A refused close leaves it.

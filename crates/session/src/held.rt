@@ -3,15 +3,15 @@ ghost use mathlib.Core.Path.{_≡_};
 ghost use Rattle.judge.specs.Judge.{Judges};
 ghost use Rattle.projection.specs.Outcome.{excerptAnswer, excerptLeaves};
 ghost use Rattle.session.specs.Session.{closedStage, isReadable, sessionFits, stageRefusal, sessionReading, stageClosed};
-use crate::answer::SESSION_CLOSED;
-use crate::answer::SESSION_OPEN;
-use crate::answer::SESSION_UNFIT;
+use crate::refusal::SESSION_CLOSED;
+use crate::refusal::SESSION_OPEN;
+use crate::refusal::SESSION_UNFIT;
 use crate::session::CLOSED;
 use crate::session::OPEN;
+use buffer::output::Output;
 use judge::judge::Verdict;
 use judge::judge::judge;
 use projection::excerpt::excerpt;
-use projection::write::Projected;
 use reader::log::Checked;
 use reader::log::check;
 use reader::log::check_partial;
@@ -94,13 +94,13 @@ pub fn stage_closed(stage: u32, v: Verdict) -> u32
 }
 
 // Writes the excerpt of the log that a closed session holds.
-pub fn excerpt_held(stage: u32, used: u32, buf: &[u8], out: &mut [u8]) -> Projected
+pub fn excerpt_held(stage: u32, used: u32, buf: &[u8], out: &mut [u8]) -> Output
     ensures { λ r. ⌜ (r ≡ excerptAnswer (sessionReading closedStage stage used (now (buf .entry))) (now (out .entry)))
         × (now (out .exit) ≡ excerptLeaves (sessionReading closedStage stage used (now (buf .entry))) (now (out .entry))) ⌝ }
 {
     let number = stage_refusal(CLOSED, stage, used, buf);
     if number != 0 {
-        return Projected::Refused { number, index: 0 };
+        return Output::Refused { number, index: 0 };
     }
     let end = used as usize;
     excerpt(&buf[..end], out)

@@ -10,9 +10,11 @@ use lib.ListN.{length, drop}
 use lib.Dec.{eqb}
 use borrow.Author.Tests.{eqb-false}
 use Rattle.record.specs.Choice.{if_then_else_}
-use Rattle.record.specs.Number.{Bytes}
 use Rattle.record.specs.declared.record.Record.{Record}
 use Rattle.buffer.specs.Buffer.{bufferTooShort, lacksRoom}
+use Rattle.buffer.specs.Output.{writing, refusalUnit, refusal, outputAnswer}
+use Rattle.buffer.specs.declared.output.Output.{Output}
+use Rattle.buffer.specs.declared.output.Output.the-variants as output
 use Rattle.reader.specs.Log.{maxRecords, maxLength, Reading, readable, refused, readLog, checked, operations, encodeLog}
 use Rattle.reader.specs.Readable.{Within}
 use Rattle.reader.specs.declared.log.Checked.the-variants as check
@@ -32,12 +34,10 @@ use Rattle.judge.specs.declared.judge.Verdict.{Verdict}
 use Rattle.judge.specs.declared.judge.Verdict.the-variants as judge
 use Rattle.judge.proofs.Laws.{judged-at-most, judged-refusal, judged-too-short, judged-determined}
 use Rattle.projection.specs.Projection.{valuesOf, narrowed, excerpted}
-use Rattle.projection.specs.Outcome.{noPattern, writing, narrowAnswer, excerptAnswerOf, excerptAnswer, excerptLeavesOf, excerptLeaves}
-use Rattle.projection.specs.declared.write.Projected.{Projected}
-use Rattle.projection.specs.declared.write.Projected.the-variants as projection
+use Rattle.projection.specs.Outcome.{narrowAnswer, excerptAnswerOf, excerptAnswer, excerptLeavesOf, excerptLeaves}
 use Rattle.projection.proofs.Laws.{projection-short}
 use Rattle.session.specs.Session.{heldLog, stageRefusal, sessionReading}
-use Rattle.yauponroof.specs.Answer.{refusalUnit, refusal, checkAnswer, replayAnswer, judgeAnswer, Modest, JudgeAnswers, projectionAnswer, indexOf}
+use Rattle.yauponroof.specs.Answer.{checkAnswer, replayAnswer, judgeAnswer, Modest, JudgeAnswers, SmallOutput}
 
 -- an answer that is accepted, with what it returns, and one that is refused
 pub record AcceptedWith (answer value : ℕ) : Type 0 where
@@ -122,70 +122,52 @@ session-known wanted stage used buffer = go (eqb (stageRefusal wanted stage used
     go true t = of-log (heldLog used buffer)
     go false t = standing {number = stageRefusal wanted stage used buffer} (omega (arith, eqb-false (stageRefusal wanted stage used buffer) 0 t))
 
--- of narrowing and of the excerpt: the record index of a refusal fits its half of the answer
-writing-fits : (bytes out : List ℕ) → indexOf (writing bytes out) < refusalUnit
-writing-fits bytes out = go (lacksRoom bytes out)
+-- of what writes a log: begin, feed, narrowing and the excerpt
+pub writing-small : (bytes out : List ℕ) → length bytes ≤ maxLength → SmallOutput (writing bytes out)
+writing-small bytes out short = go (lacksRoom bytes out)
   where
-    go : (lacks : Bool) → indexOf (if lacks then projection.Refused bufferTooShort 0 else projection.Written (length bytes)) < refusalUnit
-    go true = omega arith
-    go false = omega arith
+    go : (lacks : Bool) → SmallOutput (if lacks then output.Refused bufferTooShort 0 else output.Written (length bytes))
+    go true = (omega arith, omega arith)
+    go false = short
 
-pub narrow-fits : (log values out : List ℕ) → indexOf (narrowAnswer (readLog log) values out) < refusalUnit
-narrow-fits log values out = go (readLog log) (within log)
+pub narrow-small : (log values out : List ℕ) → SmallOutput (narrowAnswer (readLog log) values out)
+narrow-small log values out = go (readLog log) refl (within log)
   where
-    go : (reading : Reading) → Within reading → indexOf (narrowAnswer reading values out) < refusalUnit
-    go (readable records) few = writing-fits (encodeLog (narrowed records values)) out
-    go (refused number index) few = omega (arith, few .2)
+    go : (reading : Reading) → readLog log ≡ reading → Within reading → SmallOutput (narrowAnswer reading values out)
+    go (readable records) reads few = writing-small (encodeLog (narrowed records values)) out (projection-short log records reads [] values)
+    go (refused number index) reads few = (few .0, few .2)
 
-pub excerpt-fits : {reading : Reading} → Known reading → (out : List ℕ) → indexOf (excerptAnswer reading out) < refusalUnit
-excerpt-fits (standing some) out = omega arith
-excerpt-fits (of-log log) out = go (readLog log) (within log)
-  where
-    of-pattern : (records : List Record) → (found : SomeViolation Queue (historyOf records) ⊎ NoViolation Queue (historyOf records))
-        → indexOf (excerptAnswerOf records found out) < refusalUnit
-    of-pattern records (inl (number, listed, first)) = writing-fits (encodeLog (excerpted records listed)) out
-    of-pattern records (inr clean) = omega arith
-
-    go : (reading : Reading) → Within reading → indexOf (excerptAnswer reading out) < refusalUnit
-    go (readable records) few = of-pattern records (first-violation Queue (historyOf records))
-    go (refused number index) few = omega (arith, few .2)
-
--- An answer of narrowing or of the excerpt is a number of bytes that a log may have, or a refusal with a number and an index.
-pub data Fine : Projected → Type 0 where
-  fine-written : {n : ℕ} → n ≤ maxLength → Fine (projection.Written n)
-  fine-refused : {number index : ℕ} → 1 ≤ number → index < refusalUnit → Fine (projection.Refused number index)
-
-writing-fine : (bytes out : List ℕ) → length bytes ≤ maxLength → Fine (writing bytes out)
-writing-fine bytes out short = go (lacksRoom bytes out)
-  where
-    go : (lacks : Bool) → Fine (if lacks then projection.Refused bufferTooShort 0 else projection.Written (length bytes))
-    go true = fine-refused {number = bufferTooShort} {index = 0} (omega arith) (omega arith)
-    go false = fine-written short
-
-pub narrow-fine : (log : List ℕ) → Bytes log → (values out : List ℕ) → Fine (narrowAnswer (readLog log) values out)
-narrow-fine log bytes values out = go (readLog log) refl (within log)
-  where
-    go : (reading : Reading) → readLog log ≡ reading → Within reading → Fine (narrowAnswer reading values out)
-    go (readable records) reads few = writing-fine (encodeLog (narrowed records values)) out (projection-short log records reads bytes [] values)
-    go (refused number index) reads few = fine-refused {number = number} {index = index} (few .0) (omega (arith, few .2))
-
-pub excerpt-fine : (log : List ℕ) → Bytes log → (out : List ℕ) → Fine (excerptAnswer (readLog log) out)
-excerpt-fine log bytes out = go (readLog log) refl (within log)
+pub excerpt-small : {reading : Reading} → Known reading → (out : List ℕ) → SmallOutput (excerptAnswer reading out)
+excerpt-small (standing some) out = (some, omega arith)
+excerpt-small (of-log log) out = go (readLog log) refl (within log)
   where
     of-pattern : (records : List Record) → readLog log ≡ readable records
-        → (found : SomeViolation Queue (historyOf records) ⊎ NoViolation Queue (historyOf records)) → Fine (excerptAnswerOf records found out)
-    of-pattern records reads (inl (number, listed, first)) = writing-fine (encodeLog (excerpted records listed)) out (projection-short log records reads bytes listed (valuesOf (historyOf records) listed))
-    of-pattern records reads (inr clean) = fine-refused {number = noPattern} {index = 0} (omega arith) (omega arith)
+        → (found : SomeViolation Queue (historyOf records) ⊎ NoViolation Queue (historyOf records)) → SmallOutput (excerptAnswerOf records found out)
+    of-pattern records reads (inl (number, listed, first)) = writing-small (encodeLog (excerpted records listed)) out (projection-short log records reads listed (valuesOf (historyOf records) listed))
+    of-pattern records reads (inr clean) = (omega arith, omega arith)
 
-    go : (reading : Reading) → readLog log ≡ reading → Within reading → Fine (excerptAnswer reading out)
+    go : (reading : Reading) → readLog log ≡ reading → Within reading → SmallOutput (excerptAnswer reading out)
     go (readable records) reads few = of-pattern records reads (first-violation Queue (historyOf records))
-    go (refused number index) reads few = fine-refused {number = number} {index = index} (few .0) (omega (arith, few .2))
+    go (refused number index) reads few = (few .0, few .2)
 
-pub written-accepted : {n : ℕ} → Fine (projection.Written n) → AcceptedWith (projectionAnswer (projection.Written n)) n
-written-accepted {n} (fine-written short) = small-accepted n (omega arith)
+-- the same, by the answer's case
+pub refused-small : {given : Output} {number index : ℕ} → SmallOutput given → given ≡ output.Refused number index → index < refusalUnit
+refused-small {number = number} {index} small e = go (rw e at small)
+  where
+    go : SmallOutput (output.Refused number index) → index < refusalUnit
+    go small = omega (arith, small .1)
 
-pub projection-turned-down : {number index : ℕ} → Fine (projection.Refused number index) → TurnedDown (projectionAnswer (projection.Refused number index)) number index
-projection-turned-down {number} {index} (fine-refused some small) = refusal-turned-down number index some small
+pub written-small : {given : Output} {n : ℕ} → SmallOutput given → given ≡ output.Written n → n ≤ maxLength
+written-small {n = n} small e = go (rw e at small)
+  where
+    go : SmallOutput (output.Written n) → n ≤ maxLength
+    go short = short
+
+pub written-accepted : (n : ℕ) → SmallOutput (output.Written n) → AcceptedWith (outputAnswer (output.Written n)) n
+written-accepted n short = small-accepted n (omega (arith, short))
+
+pub refused-turned-down : (number index : ℕ) → SmallOutput (output.Refused number index) → TurnedDown (outputAnswer (output.Refused number index)) number index
+refused-turned-down number index small = refusal-turned-down number index (small .0) (omega (arith, small .1))
 
 -- of judging: the numbers in a verdict are small
 refused-modest : {number index : ℕ} {sheet sheet' : List ℕ} {verdict : Verdict} → 1 ≤ number → index ≤ maxRecords → Judges (refused number index) sheet verdict sheet' → Modest verdict
@@ -236,17 +218,17 @@ judge-says {reading} known {sheet} {sheet'} {answer} a = go (a .verdict) (a .jud
     go (judge.Refused number index) j small e = turned-down j (rw e (refusal-turned-down number index (small .0) (omega (arith, small .1)))) (refused-untouched reading j refl)
 
 -- and of the excerpt so does a refusal
-pub excerpt-untouched : (reading : Reading) (out : List ℕ) {number index : ℕ} → excerptAnswer reading out ≡ projection.Refused number index → excerptLeaves reading out ≡ out
+pub excerpt-untouched : (reading : Reading) (out : List ℕ) {number index : ℕ} → excerptAnswer reading out ≡ output.Refused number index → excerptLeaves reading out ≡ out
 excerpt-untouched (refused n i) out e = refl
 excerpt-untouched (readable records) out {number} {index} e = go (first-violation Queue (historyOf records)) e
   where
-    room : (bytes : List ℕ) (lacks : Bool) → (if lacks then projection.Refused bufferTooShort 0 else projection.Written (length bytes)) ≡ projection.Refused number index
+    room : (bytes : List ℕ) (lacks : Bool) → (if lacks then output.Refused bufferTooShort 0 else output.Written (length bytes)) ≡ output.Refused number index
         → (if lacks then out else bytes ++ drop (length bytes) out) ≡ out
     room bytes true e = refl
     room bytes false e = let z : _≡_ {A = ℕ} 0 1 = cc in absurd (omega arith)
 
     go : (found : SomeViolation Queue (historyOf records) ⊎ NoViolation Queue (historyOf records))
-        → excerptAnswerOf records found out ≡ projection.Refused number index → excerptLeavesOf records found out ≡ out
+        → excerptAnswerOf records found out ≡ output.Refused number index → excerptLeavesOf records found out ≡ out
     go (inl (n, listed, first)) e = room (encodeLog (excerpted records listed)) (lacksRoom (encodeLog (excerpted records listed)) out) e
     go (inr clean) e = refl
 

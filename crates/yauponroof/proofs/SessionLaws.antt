@@ -1,35 +1,32 @@
 -- What the session calls say to a C caller, and that a session gives what the log gives: the laws of the crate session, over the contracts of the calls.
-use Prim.Native.Nat.{ℕ, zero, suc, _+_, _≤_}
+use Prim.Native.Nat.{ℕ, _+_, _≤_}
 use native.Mathlib.Omega.{arith}
 use mathlib.Core.Path.{_≡_, refl, sym, ap, _∙_}
-use mathlib.Core.Bool.{Bool, true, false, not}
+use mathlib.Core.Bool.{Bool, true, false}
 use mathlib.Core.List.{List, [], _∷_, _++_, map}
-use lib.ListN.{length, take, drop}
-use lib.Dec.{eqb}
-use borrow.Author.Tests.{eqb-false}
+use lib.ListN.{length, drop}
 use Rattle.record.specs.Choice.{if_then_else_}
 use Rattle.record.specs.Record.{encode, sizeOf}
 use Rattle.record.specs.Number.{Bytes}
 use Rattle.record.specs.declared.record.Record.{Record}
 use Rattle.buffer.specs.Buffer.{bufferTooShort, lacksRoom, put}
-use Rattle.reader.specs.Log.{headerLength, countField, withCount, Reading, refused, readable, readPartial, readLog}
+use Rattle.buffer.specs.Output.{outputAnswer}
+use Rattle.buffer.specs.declared.output.Output.{Output}
+use Rattle.buffer.specs.declared.output.Output.the-variants.{Written, Refused}
+use Rattle.reader.specs.Log.{headerLength, countField, withCount, readable, readPartial, readLog}
 use Rattle.judge.specs.Judge as Judge
 use Rattle.judge.specs.Judge.{sheetBytes, Judges}
 use Rattle.judge.specs.declared.judge.Verdict.{Verdict}
 use Rattle.judge.specs.declared.judge.Verdict.the-variants as judge
 use Rattle.projection.specs.Outcome.{excerptAnswer, excerptLeaves}
-use Rattle.projection.specs.declared.write.Projected.{Projected}
-use Rattle.projection.specs.declared.write.Projected.the-variants as projection
-use Rattle.session.specs.Session.{openStage, closedStage, heldLog, stageRefusal, sessionReading, emptyLog, feedAnswer, fedBuffer, stageBegun, usedBegun, usedFed, stageClosed}
+use Rattle.session.specs.Session.{openStage, closedStage, sessionReading, emptyLog, feedAnswer, fedBuffer, stageBegun, usedBegun, usedFed, stageClosed}
 use Rattle.session.specs.Course.{Lent, begun, answerTo, afterFeed, afterClose, ifAccepted, Closes, Since, just-begun, then-fed, then-closed, afterFeeds, answersTo, logOf}
-use Rattle.session.specs.declared.answer.Answer.{Answer}
-use Rattle.session.specs.declared.answer.Answer.the-variants as session
 use Rattle.session.proofs.Feeding.{begun-holds}
 use Rattle.session.proofs.Bounds.{accepted-length, AnswerWithin, feed-within}
 use Rattle.session.proofs.Laws.{feeds-are, begin-accepted, feeds-accepted, fed-since, feeding-is-judging, sheet-is-judging, excerpt-is}
-use Rattle.yauponroof.specs.Answer.{judgeAnswer, JudgeAnswers, projectionAnswer}
-use Rattle.yauponroof.specs.Session.{writingAnswer, BeginAnswers, FeedAnswers, CloseAnswers, SheetAnswers, ExcerptAnswers, FeedsAnswer, none, more}
-use Rattle.yauponroof.proofs.Laws.{AcceptedWith, TurnedDown, small-accepted, refusal-turned-down, session-known, judges-one, answers-one, excerpt-untouched, JudgeSays, wrote, turned-down, judge-says, Fine, fine-refused, written-accepted, projection-turned-down, excerpt-fine}
+use Rattle.yauponroof.specs.Answer.{judgeAnswer, JudgeAnswers, SmallOutput}
+use Rattle.yauponroof.specs.Session.{BeginAnswers, FeedAnswers, CloseAnswers, SheetAnswers, ExcerptAnswers, FeedsAnswer, none, more}
+use Rattle.yauponroof.proofs.Laws.{AcceptedWith, TurnedDown, small-accepted, refusal-turned-down, session-known, judges-one, answers-one, excerpt-untouched, JudgeSays, wrote, turned-down, judge-says, written-accepted, refused-turned-down, excerpt-small}
 
 -- What the number that begin answers says: three bytes were written and the session is open, or all is as it was.
 pub data BeginSays (stage used : ℕ) (buffer : List ℕ) (stage' used' : ℕ) (buffer' : List ℕ) (answer : ℕ) : Type 0 where
@@ -39,28 +36,36 @@ pub data BeginSays (stage used : ℕ) (buffer : List ℕ) (stage' used' : ℕ) (
 pub begin-says : {stage used stage' used' answer : ℕ} {buffer buffer' : List ℕ} → BeginAnswers stage used buffer stage' used' buffer' answer → BeginSays stage used buffer stage' used' buffer' answer
 begin-says {stage} {used} {stage'} {used'} {answer} {buffer} {buffer'} a = go (lacksRoom emptyLog buffer) (a .answers) (a .stage-is) (a .used-is) (a .leaves)
   where
-    go : (lacks : Bool) → answer ≡ writingAnswer (if lacks then session.Refused bufferTooShort 0 else session.Accepted 3) → stage' ≡ stageBegun stage (if lacks then session.Refused bufferTooShort 0 else session.Accepted 3)
-        → used' ≡ usedBegun used (if lacks then session.Refused bufferTooShort 0 else session.Accepted 3) → buffer' ≡ (if lacks then buffer else emptyLog ++ drop (length emptyLog) buffer)
+    go : (lacks : Bool) → answer ≡ outputAnswer (if lacks then Refused bufferTooShort 0 else Written 3) → stage' ≡ stageBegun stage (if lacks then Refused bufferTooShort 0 else Written 3)
+        → used' ≡ usedBegun used (if lacks then Refused bufferTooShort 0 else Written 3) → buffer' ≡ (if lacks then buffer else emptyLog ++ drop (length emptyLog) buffer)
         → BeginSays stage used buffer stage' used' buffer' answer
     go true e s u b = refuses (rw e (refusal-turned-down bufferTooShort 0 (omega arith) (omega arith))) s u b
     go false e s u b = begins (rw e (small-accepted 3 (omega arith))) s u b
 
+-- a feed writes at most the bytes of a record
+pub feed-small : (stage used : ℕ) (buffer bytes : List ℕ) → SmallOutput (feedAnswer stage used buffer bytes)
+feed-small stage used buffer bytes = go (feedAnswer stage used buffer bytes) (feed-within stage used buffer bytes)
+  where
+    go : (given : Output) → AnswerWithin used given → SmallOutput given
+    go (Written n) small = omega (arith, small .0)
+    go (Refused number index) small = small
+
 -- What the number that feed answers says: the record was put behind the used bytes and is counted, or the feed was refused, and all is as it was.
 pub data FeedSays (stage used : ℕ) (buffer bytes : List ℕ) (stage' used' : ℕ) (buffer' : List ℕ) (answer : ℕ) : Type 0 where
-  takes : feedAnswer stage used buffer bytes ≡ session.Accepted (length bytes) → AcceptedWith answer (length bytes) → stage' ≡ stage → used' ≡ used + length bytes
+  takes : feedAnswer stage used buffer bytes ≡ Written (length bytes) → AcceptedWith answer (length bytes) → stage' ≡ stage → used' ≡ used + length bytes
       → buffer' ≡ put used bytes (withCount (countField buffer + 1) buffer) → FeedSays stage used buffer bytes stage' used' buffer' answer
-  refuses : {number index : ℕ} → feedAnswer stage used buffer bytes ≡ session.Refused number index → TurnedDown answer number index → stage' ≡ stage → used' ≡ used → buffer' ≡ buffer
+  refuses : {number index : ℕ} → feedAnswer stage used buffer bytes ≡ Refused number index → TurnedDown answer number index → stage' ≡ stage → used' ≡ used → buffer' ≡ buffer
       → FeedSays stage used buffer bytes stage' used' buffer' answer
 
 pub feed-says : {stage used stage' used' answer : ℕ} {buffer bytes buffer' : List ℕ} → FeedAnswers stage used buffer bytes stage' used' buffer' answer → FeedSays stage used buffer bytes stage' used' buffer' answer
-feed-says {stage} {used} {stage'} {used'} {answer} {buffer} {bytes} {buffer'} a = go (feedAnswer stage used buffer bytes) refl (feed-within stage used buffer bytes) (a .answers) (a .used-is) (a .leaves)
+feed-says {stage} {used} {stage'} {used'} {answer} {buffer} {bytes} {buffer'} a = go (feedAnswer stage used buffer bytes) refl (feed-small stage used buffer bytes) (a .answers) (a .used-is) (a .leaves)
   where
-    go : (given : Answer) → feedAnswer stage used buffer bytes ≡ given → AnswerWithin used given → answer ≡ writingAnswer given → used' ≡ usedFed used given → buffer' ≡ fedBuffer given used buffer bytes
+    go : (given : Output) → feedAnswer stage used buffer bytes ≡ given → SmallOutput given → answer ≡ outputAnswer given → used' ≡ usedFed used given → buffer' ≡ fedBuffer given used buffer bytes
         → FeedSays stage used buffer bytes stage' used' buffer' answer
-    go (session.Accepted n) is small e u b =
+    go (Written n) is small e u b =
         let all : n ≡ length bytes = accepted-length stage used buffer bytes is in
-        takes (is ∙ ap session.Accepted all) (rw (e ∙ all) (small-accepted (length bytes) (omega (arith, small .0)))) (a .stage-is) (u ∙ ap (λ n. used + n) all) b
-    go (session.Refused number index) is small e u b = refuses {number = number} {index = index} is (rw e (refusal-turned-down number index (small .0) (omega (arith, small .1)))) (a .stage-is) u b
+        takes (is ∙ ap Written all) (rw (e, ← all) (written-accepted n small)) (a .stage-is) (u ∙ ap (λ n. used + n) all) b
+    go (Refused number index) is small e u b = refuses {number = number} {index = index} is (rw e (refused-turned-down number index small)) (a .stage-is) u b
 
 -- What the number that close answers says: the sheet was written and the session is closed, or all is as it was.
 pub data CloseSays (stage used : ℕ) (buffer sheet : List ℕ) (stage' used' : ℕ) (sheet' : List ℕ) (answer : ℕ) : Type 0 where
@@ -86,34 +91,16 @@ close-says {stage} {used} {stage'} {used'} {answer} {buffer} {sheet} {sheet'} a 
 
 -- What the number that the excerpt of a session answers says: so many bytes were written, or the call was refused and the buffer is as it was.
 pub data ExcerptSays (stage used : ℕ) (buffer out : List ℕ) (answer : ℕ) (out' : List ℕ) : Type 0 where
-  writes : {n : ℕ} → excerptAnswer (sessionReading closedStage stage used buffer) out ≡ projection.Written n → AcceptedWith answer n → out' ≡ excerptLeaves (sessionReading closedStage stage used buffer) out
+  writes : {n : ℕ} → excerptAnswer (sessionReading closedStage stage used buffer) out ≡ Written n → AcceptedWith answer n → out' ≡ excerptLeaves (sessionReading closedStage stage used buffer) out
       → ExcerptSays stage used buffer out answer out'
-  refuses : {number index : ℕ} → excerptAnswer (sessionReading closedStage stage used buffer) out ≡ projection.Refused number index → TurnedDown answer number index → out' ≡ out → ExcerptSays stage used buffer out answer out'
+  refuses : {number index : ℕ} → excerptAnswer (sessionReading closedStage stage used buffer) out ≡ Refused number index → TurnedDown answer number index → out' ≡ out → ExcerptSays stage used buffer out answer out'
 
--- the bytes of the log that is held are those of the buffer
-taken-bytes : (n : ℕ) (buffer : List ℕ) → Bytes buffer → Bytes (take n buffer)
-taken-bytes zero buffer bytes i = omega arith
-taken-bytes (suc n) [] bytes i = omega arith
-taken-bytes (suc n) (x ∷ buffer) bytes zero = bytes zero
-taken-bytes (suc n) (x ∷ buffer) bytes (suc i) = taken-bytes n buffer (λ j. bytes (suc j)) i
-
--- of a session's excerpt: as of a log's, or a refusal by how the session stands
-pub session-excerpt-fine : (stage used : ℕ) (buffer : List ℕ) → Bytes buffer → (out : List ℕ) → Fine (excerptAnswer (sessionReading closedStage stage used buffer) out)
-session-excerpt-fine stage used buffer bytes out = go (eqb (stageRefusal closedStage stage used buffer) 0) refl
+pub excerpt-says : {stage used answer : ℕ} {buffer out out' : List ℕ} → ExcerptAnswers stage used buffer out answer out' → ExcerptSays stage used buffer out answer out'
+excerpt-says {stage} {used} {answer} {buffer} {out} {out'} a = go (excerptAnswer (sessionReading closedStage stage used buffer) out) refl (excerpt-small (session-known closedStage stage used buffer) out) (a .answers)
   where
-    go : (t : Bool) → eqb (stageRefusal closedStage stage used buffer) 0 ≡ t → Fine (excerptAnswer (if not t then refused (stageRefusal closedStage stage used buffer) 0 else readLog (heldLog used buffer)) out)
-    go true t = excerpt-fine (heldLog used buffer) (taken-bytes used buffer bytes) out
-    go false t = fine-refused {number = stageRefusal closedStage stage used buffer} {index = 0} (omega (arith, eqb-false (stageRefusal closedStage stage used buffer) 0 t)) (omega arith)
-
-pub excerpt-says : {stage used answer : ℕ} {buffer out out' : List ℕ} → Bytes buffer → ExcerptAnswers stage used buffer out answer out' → ExcerptSays stage used buffer out answer out'
-excerpt-says {stage} {used} {answer} {buffer} {out} {out'} bytes a = go (excerptAnswer reading out) refl (session-excerpt-fine stage used buffer bytes out) (a .answers)
-  where
-    reading : Reading
-    reading = sessionReading closedStage stage used buffer
-
-    go : (given : Projected) → excerptAnswer (sessionReading closedStage stage used buffer) out ≡ given → Fine given → answer ≡ projectionAnswer given → ExcerptSays stage used buffer out answer out'
-    go (projection.Written n) e fine is = writes {n = n} e (rw is (written-accepted fine)) (a .leaves)
-    go (projection.Refused number index) e fine is = refuses {number = number} {index = index} e (rw is (projection-turned-down fine)) (a .leaves ∙ excerpt-untouched (sessionReading closedStage stage used buffer) out e)
+    go : (given : Output) → excerptAnswer (sessionReading closedStage stage used buffer) out ≡ given → SmallOutput given → answer ≡ outputAnswer given → ExcerptSays stage used buffer out answer out'
+    go (Written n) e small is = writes {n = n} e (rw is (written-accepted n small)) (a .leaves)
+    go (Refused number index) e small is = refuses {number = number} {index = index} e (rw is (refused-turned-down number index small)) (a .leaves ∙ excerpt-untouched (sessionReading closedStage stage used buffer) out e)
 
 -- "For each entry the result, the session and every lent byte follow from the input, refusals too": begin, feed and excerpt are equations; closing and
 -- the sheet have one outcome.
@@ -151,18 +138,18 @@ close-since {stage = stage} {used} {stage'} {used'} {buffer = buffer} since a =
     rw same (then-closed since (a .judged .verdict) (record { judges = a .judged .judges }))
 
 feeds-follow : {stage used stage' used' : ℕ} {buffer buffer' answers : List ℕ} {feeds : List (List ℕ)} → FeedsAnswer stage used buffer feeds answers stage' used' buffer'
-    → (lent stage' used' buffer' ≡ afterFeeds (lent stage used buffer) feeds) × (answers ≡ map writingAnswer (answersTo (lent stage used buffer) feeds))
+    → (lent stage' used' buffer' ≡ afterFeeds (lent stage used buffer) feeds) × (answers ≡ map outputAnswer (answersTo (lent stage used buffer) feeds))
 unfolding afterFeeds answersTo
 feeds-follow none = (refl, refl)
 feeds-follow (more {stage} {used} {stage'} {used'} {buffer = buffer} {buffer'} {bytes = bytes} {answers = others} {feeds = feeds} a rest) =
     let first : lent stage' used' buffer' ≡ afterFeed (lent stage used buffer) bytes = cc (a .stage-is, a .used-is, a .leaves) in
     let (left, answers) = feeds-follow rest in (
       left ∙ ap (λ s. afterFeeds s feeds) first,
-      ap (λ x. x ∷ others) (a .answers) ∙ ap (λ xs. writingAnswer (answerTo (lent stage used buffer) bytes) ∷ xs) (answers ∙ ap (λ s. map writingAnswer (answersTo s feeds)) first),
+      ap (λ x. x ∷ others) (a .answers) ∙ ap (λ xs. outputAnswer (answerTo (lent stage used buffer) bytes) ∷ xs) (answers ∙ ap (λ s. map outputAnswer (answersTo s feeds)) first),
     )
 
 -- the answers of accepted feeds are the sizes of the records
-sizes-answered : (records : List Record) → map writingAnswer (map (λ r. session.Accepted (sizeOf r)) records) ≡ map sizeOf records
+sizes-answered : (records : List Record) → map outputAnswer (map (λ r. Written (sizeOf r)) records) ≡ map sizeOf records
 sizes-answered [] = refl
 sizes-answered (r ∷ records) = ap (λ xs. sizeOf r ∷ xs) (sizes-answered records)
 
@@ -176,14 +163,14 @@ module _ (log : List ℕ) (bytes : Bytes log) (records : List Record) (reads : r
       cc (begin .stage-is ∙ ap (stageBegun stage) accepted, begin .used-is ∙ ap (usedBegun used) accepted, begin .leaves)
 
   pub begin-returns : began ≡ headerLength
-  begin-returns = begin .answers ∙ ap writingAnswer (begin-accepted log buffer bytes records reads room)
+  begin-returns = begin .answers ∙ ap outputAnswer (begin-accepted log buffer bytes records reads room)
 
   module _ {stage₁ used₁ : ℕ} {buffer₁ answers : List ℕ} (feeds : FeedsAnswer stage₀ used₀ buffer₀ (map encode records) answers stage₁ used₁ buffer₁) where
     fed-as : lent stage₁ used₁ buffer₁ ≡ afterFeeds (begun buffer) (map encode records)
     fed-as = feeds-follow feeds .0 ∙ ap (λ s. afterFeeds s (map encode records)) begins-as
 
     pub feeds-return : answers ≡ map sizeOf records
-    feeds-return = feeds-follow feeds .1 ∙ ap (λ s. map writingAnswer (answersTo s (map encode records))) begins-as ∙ ap (map writingAnswer) (feeds-accepted log buffer bytes records reads room) ∙ sizes-answered records
+    feeds-return = feeds-follow feeds .1 ∙ ap (λ s. map outputAnswer (answersTo s (map encode records))) begins-as ∙ ap (map outputAnswer) (feeds-accepted log buffer bytes records reads room) ∙ sizes-answered records
 
     module _ {sheet left : List ℕ} {stage₂ used₂ answer : ℕ} (close : CloseAnswers stage₁ used₁ buffer₁ sheet stage₂ used₂ left answer) where
       closes-as : Closes (afterFeeds (begun buffer) (map encode records)) sheet (close .judged .verdict) left
@@ -208,8 +195,8 @@ module _ (log : List ℕ) (bytes : Bytes log) (records : List Record) (reads : r
             let (same, sheets) = sheet-is-judging since closed (again .judges) judges in
             (again .answers ∙ ap judgeAnswer same ∙ sym (judged .answers), sheets)
 
-        pub excerpt-returns : {out out' : List ℕ} {answer' : ℕ} → ExcerptAnswers stage₂ used₂ buffer₁ out answer' out' → (answer' ≡ projectionAnswer (excerptAnswer (readLog log) out)) × (out' ≡ excerptLeaves (readLog log) out)
+        pub excerpt-returns : {out out' : List ℕ} {answer' : ℕ} → ExcerptAnswers stage₂ used₂ buffer₁ out answer' out' → (answer' ≡ outputAnswer (excerptAnswer (readLog log) out)) × (out' ≡ excerptLeaves (readLog log) out)
         excerpt-returns {out} excerpt =
             let (answers, leaves) = excerpt-is since closed out in
             let same = feeds-are log buffer bytes records reads room in
-            (excerpt .answers ∙ ap projectionAnswer (answers ∙ ap (λ l. excerptAnswer (readLog l) out) same), excerpt .leaves ∙ leaves ∙ ap (λ l. excerptLeaves (readLog l) out) same)
+            (excerpt .answers ∙ ap outputAnswer (answers ∙ ap (λ l. excerptAnswer (readLog l) out) same), excerpt .leaves ∙ leaves ∙ ap (λ l. excerptLeaves (readLog l) out) same)

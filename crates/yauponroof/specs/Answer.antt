@@ -1,8 +1,12 @@
--- The number that a call answers: what it returns, or, from 4,294,967,296 on, the refusal's number above its record index.
-use Prim.Native.Nat.{ℕ, _+_, _*_, _≤_}
+-- The number that a call answers: what it returns, or a refusal, as `refusal` says. Of a call that writes a log it is `outputAnswer`; both stand in
+-- `Output` of the crate buffer.
+use Prim.Native.Nat.{ℕ, _≤_}
 use mathlib.Core.Path.{_≡_}
 use mathlib.Core.List.{List}
-use Rattle.reader.specs.Log.{maxRecords, Reading}
+use Rattle.buffer.specs.Output.{refusal}
+use Rattle.buffer.specs.declared.output.Output.{Output}
+use Rattle.buffer.specs.declared.output.Output.the-variants as output
+use Rattle.reader.specs.Log.{maxRecords, maxLength, Reading}
 use Rattle.reader.specs.declared.log.Checked.{Checked}
 use Rattle.reader.specs.declared.log.Checked.the-variants as check
 use Rattle.replay.specs.declared.replay.Replayed.{Replayed}
@@ -10,14 +14,6 @@ use Rattle.replay.specs.declared.replay.Replayed.the-variants as replay
 use Rattle.judge.specs.Judge.{sheetBytes, Judges}
 use Rattle.judge.specs.declared.judge.Verdict.{Verdict}
 use Rattle.judge.specs.declared.judge.Verdict.the-variants as judge
-use Rattle.projection.specs.declared.write.Projected.{Projected}
-use Rattle.projection.specs.declared.write.Projected.the-variants as projection
-
-abbrev pub refusalUnit : ℕ
-refusalUnit = 4294967296
-
-abbrev pub refusal : ℕ → ℕ → ℕ
-refusal number index = number * refusalUnit + index
 
 -- of a check: the number of operations
 abbrev pub checkAnswer : Checked → ℕ
@@ -48,12 +44,7 @@ pub record JudgeAnswers (reading : Reading) (sheet : List ℕ) (answer : ℕ) (s
   pub judges : Judges reading sheet verdict sheet'
   pub answers : answer ≡ judgeAnswer verdict
 
--- of narrowing and of the excerpt: how many bytes were written
-abbrev pub projectionAnswer : Projected → ℕ
-projectionAnswer (projection.Written n) = n
-projectionAnswer (projection.Refused number index) = refusal number index
-
--- the record index of a refusal, 0 if it is none
-abbrev pub indexOf : Projected → ℕ
-indexOf (projection.Written n) = 0
-indexOf (projection.Refused number index) = index
+-- the numbers in the answer of a call that writes a log are small, too
+abbrev pub SmallOutput : Output → Type 0
+SmallOutput (output.Written n) = n ≤ maxLength
+SmallOutput (output.Refused number index) = (1 ≤ number) × (index ≤ maxRecords)

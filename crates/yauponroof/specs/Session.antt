@@ -2,25 +2,19 @@
 use Prim.Native.Nat.{ℕ}
 use mathlib.Core.Path.{_≡_}
 use mathlib.Core.List.{List, [], _∷_}
+use Rattle.buffer.specs.Output.{outputAnswer}
 use Rattle.projection.specs.Outcome.{excerptAnswer, excerptLeaves}
 use Rattle.session.specs.Session.{openStage, closedStage, sessionReading, beginAnswer, beginLeaves, stageBegun, usedBegun, feedAnswer, feedLeaves, usedFed, stageClosed}
-use Rattle.session.specs.declared.answer.Answer.{Answer}
-use Rattle.session.specs.declared.answer.Answer.the-variants.{Accepted, Refused}
-use Rattle.yauponroof.specs.Answer.{refusal, JudgeAnswers, projectionAnswer}
-
--- the number that begin and feed answer: how many bytes were written
-abbrev pub writingAnswer : Answer → ℕ
-writingAnswer (Accepted n) = n
-writingAnswer (Refused number index) = refusal number index
+use Rattle.yauponroof.specs.Answer.{JudgeAnswers}
 
 pub record BeginAnswers (stage used : ℕ) (buffer : List ℕ) (stage' used' : ℕ) (buffer' : List ℕ) (answer : ℕ) : Type 0 where
-  pub answers : answer ≡ writingAnswer (beginAnswer buffer)
+  pub answers : answer ≡ outputAnswer (beginAnswer buffer)
   pub stage-is : stage' ≡ stageBegun stage (beginAnswer buffer)
   pub used-is : used' ≡ usedBegun used (beginAnswer buffer)
   pub leaves : buffer' ≡ beginLeaves buffer
 
 pub record FeedAnswers (stage used : ℕ) (buffer bytes : List ℕ) (stage' used' : ℕ) (buffer' : List ℕ) (answer : ℕ) : Type 0 where
-  pub answers : answer ≡ writingAnswer (feedAnswer stage used buffer bytes)
+  pub answers : answer ≡ outputAnswer (feedAnswer stage used buffer bytes)
   pub stage-is : stage' ≡ stage
   pub used-is : used' ≡ usedFed used (feedAnswer stage used buffer bytes)
   pub leaves : buffer' ≡ feedLeaves stage used buffer bytes
@@ -36,7 +30,7 @@ abbrev pub SheetAnswers : ℕ → ℕ → List ℕ → List ℕ → ℕ → List
 SheetAnswers stage used buffer sheet answer sheet' = JudgeAnswers (sessionReading closedStage stage used buffer) sheet answer sheet'
 
 pub record ExcerptAnswers (stage used : ℕ) (buffer out : List ℕ) (answer : ℕ) (out' : List ℕ) : Type 0 where
-  pub answers : answer ≡ projectionAnswer (excerptAnswer (sessionReading closedStage stage used buffer) out)
+  pub answers : answer ≡ outputAnswer (excerptAnswer (sessionReading closedStage stage used buffer) out)
   pub leaves : out' ≡ excerptLeaves (sessionReading closedStage stage used buffer) out
 
 -- Calls of feed, one after the other: the bytes that are fed, and the answers.

@@ -1,9 +1,10 @@
 // The number that a call answers: what it returns, or a refusal. specs/Answer.antt says which number each outcome is.
 ghost use mathlib.Core.Path.{_≡_};
 ghost use Prim.Native.Nat.{_<_};
-ghost use Rattle.yauponroof.specs.Answer.{refusalUnit, refusal, judgeAnswer, Modest, projectionAnswer, indexOf};
+ghost use Rattle.buffer.specs.Output.{refusalUnit, refusal, outputAnswer};
+ghost use Rattle.yauponroof.specs.Answer.{judgeAnswer, Modest, SmallOutput};
+use buffer::output::Output;
 use judge::judge::Verdict;
-use projection::write::Projected;
 
 // What a refusal's number is multiplied by: it stands in the high 32 bits.
 const REFUSAL_UNIT: u64 = 4294967296;
@@ -31,13 +32,13 @@ pub(crate) fn judged(v: Verdict) -> u64
     }
 }
 
-// A log that was written, or a refusal, as an answer.
-pub(crate) fn projected(p: Projected) -> u64
-    requires { ⌜ indexOf p < refusalUnit ⌝ }
-    ensures { λ r. ⌜ r ≡ projectionAnswer p ⌝ }
+// How many bytes were written, or a refusal, as an answer.
+pub(crate) fn output_answer(o: Output) -> u64
+    requires { ⌜ SmallOutput o ⌝ }
+    ensures { λ r. ⌜ r ≡ outputAnswer o ⌝ }
 {
-    match p {
-        Projected::Written(bytes) => bytes as u64,
-        Projected::Refused { number, index } => refuse(number, index),
+    match o {
+        Output::Written(bytes) => bytes as u64,
+        Output::Refused { number, index } => refuse(number, index),
     }
 }

@@ -2,16 +2,17 @@
 // 32 bits are 0 if the call was accepted, else the refusal's number, and whose low 32 bits are what the call returns, or the
 // refusal's record index. specs/Answer.antt says which number each outcome is.
 ghost use mathlib.Core.Path.{_≡_};
+ghost use Rattle.buffer.specs.Output.{outputAnswer};
 ghost use Rattle.reader.specs.Log.{readLog, checked};
 ghost use Rattle.replay.specs.Replay.{replayed};
 ghost use Rattle.projection.specs.Outcome.{excerptAnswer, excerptLeaves, narrowAnswer, narrowLeaves};
-ghost use Rattle.yauponroof.specs.Answer.{checkAnswer, replayAnswer, JudgeAnswers, projectionAnswer};
+ghost use Rattle.yauponroof.specs.Answer.{checkAnswer, replayAnswer, JudgeAnswers};
 
 mod answer;
 pub mod sessions;
 
 use crate::answer::judged;
-use crate::answer::projected;
+use crate::answer::output_answer;
 use crate::answer::refuse;
 use judge::judge::judge;
 use projection::excerpt::excerpt;
@@ -58,17 +59,17 @@ pub extern "C" fn yr_judge(log: &[u8], sheet: &mut [u8]) -> u64
 // Writes the excerpt of a log whose verdict is a pattern. Returns how many bytes were written, or a refusal from 1 to 10, 23 or 24.
 #[no_mangle]
 pub extern "C" fn yr_excerpt(log: &[u8], out: &mut [u8]) -> u64
-    ensures { λ r. ⌜ (r ≡ projectionAnswer (excerptAnswer (readLog (now (log .entry))) (now (out .entry))))
+    ensures { λ r. ⌜ (r ≡ outputAnswer (excerptAnswer (readLog (now (log .entry))) (now (out .entry))))
         × (now (out .exit) ≡ excerptLeaves (readLog (now (log .entry))) (now (out .entry))) ⌝ }
 {
-    projected(excerpt(log, out))
+    output_answer(excerpt(log, out))
 }
 
 // Writes the log of the operations on these values. Returns how many bytes were written, or a refusal from 1 to 10 or 24.
 #[no_mangle]
 pub extern "C" fn yr_narrow(log: &[u8], values: &[u32], out: &mut [u8]) -> u64
-    ensures { λ r. ⌜ (r ≡ projectionAnswer (narrowAnswer (readLog (now (log .entry))) (now (values .entry)) (now (out .entry))))
+    ensures { λ r. ⌜ (r ≡ outputAnswer (narrowAnswer (readLog (now (log .entry))) (now (values .entry)) (now (out .entry))))
         × (now (out .exit) ≡ narrowLeaves (readLog (now (log .entry))) (now (values .entry)) (now (out .entry))) ⌝ }
 {
-    projected(narrow(log, values, out))
+    output_answer(narrow(log, values, out))
 }

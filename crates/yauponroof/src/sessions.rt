@@ -2,9 +2,8 @@
 // numbers and the buffers.
 ghost use Rattle.yauponroof.specs.Session.{BeginAnswers, FeedAnswers, CloseAnswers, SheetAnswers, ExcerptAnswers};
 use crate::answer::judged;
-use crate::answer::projected;
-use crate::answer::refuse;
-use session::answer::Answer;
+use crate::answer::output_answer;
+use buffer::output::Output;
 use session::feed::begin;
 use session::feed::feed;
 use session::held::excerpt_held;
@@ -25,16 +24,21 @@ pub struct Turn {
 fn begin_turn(stage: u32, used: u32, buf: &mut [u8]) -> Turn
     ensures { λ t. ⌜ BeginAnswers stage used (now (buf .entry)) (t .stage) (t .used) (now (buf .exit)) (t .answer) ⌝ }
 {
-    match begin(buf) {
-        Answer::Accepted(size) => Turn {
+    let output = begin(buf);
+    let answer = output_answer(output);
+    match output {
+        Output::Written(size) => Turn {
             stage: OPEN,
             used: size as u32,
-            answer: size as u64,
+            answer,
         },
-        Answer::Refused { number, index } => Turn {
+        Output::Refused {
+            number: _,
+            index: _,
+        } => Turn {
             stage,
             used,
-            answer: refuse(number, index),
+            answer,
         },
     }
 }
@@ -43,16 +47,21 @@ fn begin_turn(stage: u32, used: u32, buf: &mut [u8]) -> Turn
 fn feed_turn(stage: u32, used: u32, buf: &mut [u8], bytes: &[u8]) -> Turn
     ensures { λ t. ⌜ FeedAnswers stage used (now (buf .entry)) (now (bytes .entry)) (t .stage) (t .used) (now (buf .exit)) (t .answer) ⌝ }
 {
-    match feed(stage, used, buf, bytes) {
-        Answer::Accepted(size) => Turn {
+    let output = feed(stage, used, buf, bytes);
+    let answer = output_answer(output);
+    match output {
+        Output::Written(size) => Turn {
             stage,
             used: used + size as u32,
-            answer: size as u64,
+            answer,
         },
-        Answer::Refused { number, index } => Turn {
+        Output::Refused {
+            number: _,
+            index: _,
+        } => Turn {
             stage,
             used,
-            answer: refuse(number, index),
+            answer,
         },
     }
 }
@@ -80,7 +89,7 @@ fn sheet_answer(stage: u32, used: u32, buf: &[u8], sheet: &mut [u8]) -> u64
 fn excerpt_answer(stage: u32, used: u32, buf: &[u8], out: &mut [u8]) -> u64
     ensures { λ r. ⌜ ExcerptAnswers stage used (now (buf .entry)) (now (out .entry)) r (now (out .exit)) ⌝ }
 {
-    projected(excerpt_held(stage, used, buf, out))
+    output_answer(excerpt_held(stage, used, buf, out))
 }
 
 // Begins a session: writes a log without records into its buffer. Returns 3, the bytes written, or refusal 24.
