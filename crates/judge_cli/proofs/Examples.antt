@@ -1,7 +1,7 @@
 -- Lines of document 01 and some more, by computing.
 use mathlib.Core.Path.{_≡_, refl}
 use mathlib.Core.List.{[], _∷_, _++_}
-use Rattle.judge_cli.specs.Text.{ascii, digits, decimal, spaced}
+use Rattle.text.specs.Text.{ascii, digits, spaced}
 use Rattle.judge_cli.specs.Report.{countsLine, verdictLine, refusalLine}
 
 second-run : countsLine 4 2 ++ verdictLine 0 (0 ∷ 1 ∷ []) ≡ ascii "log 4 records 2 operations\norder 0 1\n"
@@ -19,7 +19,3 @@ false-empty = refl
 added-twice : refusalLine 9 2 ≡ ascii "refused 9 2\n"
 unfolding digits spaced
 added-twice = refl
-
-four-digits : decimal 1024 ≡ ascii "1024"
-unfolding digits
-four-digits = refl

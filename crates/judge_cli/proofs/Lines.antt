@@ -4,7 +4,7 @@ use native.Mathlib.Omega.{arith}
 use mathlib.Core.Path.{_≡_, refl, ap, _∙_}
 use mathlib.Core.List.{List, [], _∷_, _++_, map, append-assoc}
 use lib.ListN.{length, length-append}
-use Rattle.judge_cli.specs.Text.{ascii, space, lineFeed, decimal, spaced}
+use Rattle.text.specs.Text.{ascii, space, lineFeed, decimal, spaced}
 use Rattle.judge_cli.specs.Report.{countsLine, orderLine, patternLine, refusalLine}
 
 pub counts-pieces : (n m : ℕ) → countsLine n m ≡ ascii "log" ++ (space ∷ decimal n) ++ (space ∷ ascii "records") ++ (space ∷ decimal m) ++ (space ∷ ascii "operations" ++ (lineFeed ∷ []))

@@ -5,8 +5,8 @@ use mathlib.Core.Path.{_≡_, refl, sym, ap, _∙_}
 use mathlib.Core.List.{List, [], _∷_, _++_, map, append-assoc, append-nil, map-append}
 use lib.ListN.{length, length-append}
 use Rattle.record.specs.Number.{bigEndian}
+use Rattle.text.specs.Text.{space, decimal, spaced}
 use Rattle.history.specs.Sheet.{sheetHeader, numbersFrom}
-use Rattle.judge_cli.specs.Text.{space, decimal, spaced}
 use Rattle.judge_cli.specs.Writing.{listing}
 
 numbers-split : (sheet : List ℕ) (at i j : ℕ) → numbersFrom sheet at (i + j) ≡ numbersFrom sheet at i ++ numbersFrom sheet (at + 2 * i) j

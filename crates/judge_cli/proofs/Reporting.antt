@@ -12,6 +12,9 @@ use borrow.Author.Tests.{le-ltb, eq-eqb, ne-eqb}
 use Rattle.record.specs.Number.{bytesOf}
 use Rattle.record.specs.declared.record.Record.{Record}
 use Rattle.record.proofs.Numbers.{number-there}
+use Rattle.text.specs.Text.{decimal, spaced, Puts}
+use Rattle.text.proofs.Decimals.{decimal-few}
+use Rattle.text.proofs.Putting.{starts-with, keeps-behind}
 use Rattle.reader.specs.Log.{maxRecords, Reading, readable, refused, readLog, operations}
 use Rattle.reader.specs.Readable.{Within}
 use Rattle.reader.proofs.Laws.{readable-log, within, few-operations}
@@ -23,12 +26,9 @@ use Rattle.judge.proofs.Laws.{verdict-at-most}
 use Rattle.judge.specs.Judge.{verdictOf, Judgement, Judges, judged, turned-down}
 use Rattle.judge.specs.declared.judge.Verdict.{Verdict}
 use Rattle.judge.specs.declared.judge.Verdict.the-variants.{Refused}
-use Rattle.judge_cli.specs.Text.{decimal, spaced}
 use Rattle.judge_cli.specs.Report.{countsLine, orderLine, patternLine, verdictLine, refusalLine, Reports, Reported}
-use Rattle.judge_cli.specs.Writing.{sheetRoom, reportRoom, Puts, countsOf, answerLine, OnSheet}
-use Rattle.judge_cli.proofs.Decimals.{decimal-few}
+use Rattle.judge_cli.specs.Writing.{sheetRoom, reportRoom, countsOf, answerLine, OnSheet}
 use Rattle.judge_cli.proofs.Lines.{counts-length, order-length, pattern-length, refusal-length}
-use Rattle.judge_cli.proofs.Putting.{starts-with, keeps-behind}
 
 -- The judge's answer and sheet make a report, and there is room for it.
 pub record Reportable (reading : Reading) (answer : Verdict) (sheet : List ℕ) : Type 0 where

@@ -6,13 +6,13 @@ use lib.ListN.{length, take, drop}
 use lib.Dec.{eqb}
 use Rattle.record.specs.Choice.{if_then_else_}
 use Rattle.record.specs.declared.record.Record.{Record}
+use Rattle.text.specs.Text.{ascii, decimal, line}
 use Rattle.reader.specs.Log.{Reading, readable, refused, operations}
 use Rattle.history.specs.Object.{Queue}
 use Rattle.history.specs.Operations.{historyOf}
 use Rattle.history.specs.Sheet.{orderVerdict}
 use Rattle.violations.specs.Verdict.{Verdict}
 use Rattle.violations.specs.Found.{Found}
-use Rattle.judge_cli.specs.Text.{ascii, decimal, line}
 
 -- "Line 1: n, then the calls."
 abbrev pub countsLine : ℕ → ℕ → List ℕ

@@ -1,14 +1,12 @@
--- How the code writes a report: bytes behind bytes, into a lent buffer, from the judge's answer and sheet. What the program prints can be understood
--- without this file.
+-- How the code writes a report from the judge's answer and sheet. What the program prints can be understood without this file.
 use Prim.Native.Nat.{ℕ, _+_, _*_, _≤_}
-use mathlib.Core.Path.{_≡_}
-use mathlib.Core.List.{List, [], _++_, map}
-use lib.ListN.{length, take, drop}
+use mathlib.Core.List.{List, [], map}
+use lib.ListN.{length}
+use Rattle.text.specs.Text.{decimal, spaced}
 use Rattle.reader.specs.Log.{maxRecords, Reading, readable, refused, operations}
 use Rattle.history.specs.Sheet.{sheetHeader, numbersFrom}
 use Rattle.judge.specs.declared.judge.Verdict.{Verdict}
 use Rattle.judge.specs.declared.judge.Verdict.the-variants.{Order, Pattern, Refused}
-use Rattle.judge_cli.specs.Text.{decimal, spaced}
 use Rattle.judge_cli.specs.Report.{countsLine, orderLine, patternLine, refusalLine}
 
 -- a sheet with room for every verdict on a log
@@ -18,11 +16,6 @@ sheetRoom = sheetHeader + 2 * maxRecords
 -- a buffer with room for every report: its first line has at most 33 bytes, and its second at most 10, and 5 more for each operation listed
 abbrev pub reportRoom : ℕ
 reportRoom = 33 + (10 + 5 * maxRecords)
-
--- Bytes stand in a buffer from a position on, up to `next`. Before and behind them it is as it was.
-pub record Puts (bytes : List ℕ) (at : ℕ) (buffer : List ℕ) (next : ℕ) (buffer' : List ℕ) : Type 0 where
-  pub ends : next ≡ at + length bytes
-  pub holds : buffer' ≡ take at buffer ++ bytes ++ drop next buffer
 
 -- the first line for a log, as it was read; nothing if it is refused
 abbrev pub countsOf : Reading → List ℕ

@@ -1,7 +1,6 @@
 // The program: reads a log from standard input, judges it and prints its report. What the report is, is proved of the function `report`; what is
 // read and written is left to the library io.
 mod report;
-mod text;
 
 use report::REPORT;
 use report::report;

@@ -3,17 +3,18 @@ ghost use Prim.Native.Nat.{_+_, _*_, _≤_};
 ghost use lib.ListN.{length};
 ghost use Rattle.reader.specs.Log.{readLog};
 ghost use Rattle.history.specs.Sheet.{sheetHeader, numbersFrom};
+ghost use Rattle.text.specs.Text.{Puts};
 ghost use Rattle.judge_cli.specs.Report.{countsLine, orderLine, patternLine, refusalLine, Reported};
-ghost use Rattle.judge_cli.specs.Writing.{reportRoom, Puts, countsOf, listing, answerLine, OnSheet};
-use crate::text::end_line;
-use crate::text::put_bytes;
-use crate::text::put_field;
+ghost use Rattle.judge_cli.specs.Writing.{reportRoom, countsOf, listing, answerLine, OnSheet};
 use judge::judge::Verdict;
 use judge::judge::judge;
 use reader::format::MAX_RECORDS;
 use reader::log::Checked;
 use reader::log::check;
 use record::number::be16;
+use text::text::end_line;
+use text::text::put_bytes;
+use text::text::put_field;
 
 const HEADER: usize = 4;
 

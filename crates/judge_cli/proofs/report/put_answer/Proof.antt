@@ -1,8 +1,8 @@
 -- `put_answer` meets its contract, case by case.
 use mathlib.Core.Path.{ap}
 use borrow.Author.Needs.{needs}
+use Rattle.text.proofs.Putting.{puts-same}
 use Rattle.judge_cli.specs.Writing.{answerLine}
-use Rattle.judge_cli.proofs.Putting.{puts-same}
 use Rattle.judge_cli.proofs.report.put_answer.Statement.{statement}
 use Rattle.judge_cli.proofs.report.put_answer.Tie as tie
 

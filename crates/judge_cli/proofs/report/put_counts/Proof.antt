@@ -1,7 +1,7 @@
 -- `put_counts` meets its contract: the line is put piece by piece.
 use native.Mathlib.Omega.{arith}
+use Rattle.text.proofs.Putting.{puts-same, puts-more}
 use Rattle.judge_cli.proofs.Lines.{counts-pieces, counts-length}
-use Rattle.judge_cli.proofs.Putting.{puts-same, puts-more}
 use borrow.Author.Needs.{needs}
 use Rattle.judge_cli.proofs.report.put_counts.Statement.{statement}
 use Rattle.judge_cli.proofs.report.put_counts.Tie as tie

@@ -3,9 +3,9 @@ use native.Mathlib.Omega.{arith}
 use mathlib.Core.Path.{ap}
 use lib.ListN.{length}
 use borrow.Author.Needs.{needs}
+use Rattle.text.proofs.Putting.{puts-nothing, puts-same}
 use Rattle.reader.specs.Log.{readLog}
 use Rattle.judge_cli.proofs.Counts.{counts-readable, counts-refused}
-use Rattle.judge_cli.proofs.Putting.{puts-nothing, puts-same}
 use Rattle.judge_cli.proofs.report.put_counts_of.Statement.{statement}
 use Rattle.judge_cli.proofs.report.put_counts_of.Tie as tie
 

@@ -3,9 +3,10 @@ use Prim.Native.Nat.{_-_, _≤_}
 use native.Mathlib.Omega.{arith}
 use mathlib.Core.Path.{_≡_, refl, ap}
 use lib.ListN.{length}
-use Rattle.judge_cli.specs.Writing.{Puts, listing}
+use Rattle.text.specs.Text.{Puts}
+use Rattle.text.proofs.Putting.{puts-nothing, puts-same, puts-more}
+use Rattle.judge_cli.specs.Writing.{listing}
 use Rattle.judge_cli.proofs.Listing.{listing-none, listing-more, listing-room}
-use Rattle.judge_cli.proofs.Putting.{puts-nothing, puts-same, puts-more}
 use Rattle.judge_cli.proofs.report.put_listed.Statement.{statement}
 use Rattle.judge_cli.proofs.report.put_listed.Tie as tie
 

@@ -1,9 +1,9 @@
 -- `put_order` meets its contract: the line is put piece by piece.
 use native.Mathlib.Omega.{arith}
 use borrow.Author.Needs.{needs}
+use Rattle.text.proofs.Putting.{puts-same, puts-more}
 use Rattle.history.specs.Sheet.{sheetHeader, numbersFrom}
 use Rattle.judge_cli.proofs.Lines.{order-pieces, order-length}
-use Rattle.judge_cli.proofs.Putting.{puts-same, puts-more}
 use Rattle.judge_cli.proofs.report.put_order.Statement.{statement}
 use Rattle.judge_cli.proofs.report.put_order.Tie as tie
 

@@ -3,8 +3,8 @@ use native.Mathlib.Omega.{arith}
 use mathlib.Core.Path.{refl}
 use lib.ListN.{replicate}
 use borrow.Author.Needs.{needs}
+use Rattle.text.proofs.Putting.{puts-more}
 use Rattle.judge_cli.specs.Writing.{sheetRoom}
-use Rattle.judge_cli.proofs.Putting.{puts-more}
 use Rattle.judge_cli.proofs.Reporting.{judged-reports, puts-report}
 use Rattle.judge_cli.proofs.report.report.Statement.{statement}
 use Rattle.judge_cli.proofs.report.report.Tie as tie

@@ -1,8 +1,8 @@
 -- `put_byte` meets its contract: one byte is stored.
 use borrow.Author.Needs.{needs}
-use Rattle.judge_cli.proofs.Putting.{puts-byte}
-use Rattle.judge_cli.proofs.text.put_byte.Statement.{statement}
-use Rattle.judge_cli.proofs.text.put_byte.Tie as tie
+use Rattle.text.proofs.Putting.{puts-byte}
+use Rattle.text.proofs.text.put_byte.Statement.{statement}
+use Rattle.text.proofs.text.put_byte.Tie as tie
 
 slice-write-text : tie.Need-slice-write-text
 slice-write-text c = search needs

@@ -2,16 +2,16 @@
 use Prim.Native.Nat.{ℕ, _<_}
 use native.Mathlib.Omega.{arith}
 use borrow.Author.Needs.{needs}
-use Rattle.judge_cli.proofs.Decimals.{one-digit, one-digit-more}
-use Rattle.judge_cli.proofs.Putting.{puts-digit, puts-digits}
+use Rattle.text.proofs.Decimals.{one-digit, one-digit-more}
+use Rattle.text.proofs.Putting.{puts-digit, puts-digits}
 use borrow.Fn.Kinds.{In}
 use borrow.Fn.PlainCycle.{Measures, is, falls, and}
-use Rattle.judge_cli.proofs.text.put_number.Reads as put-number
-use Rattle.judge_cli.proofs.text.put_number.Kinds as put-number-kinds
-use Rattle.judge_cli.proofs.text.+put_number.Lts-put_number as put-number-lts
-use Rattle.judge_cli.proofs.text.put_byte.Reads as put-byte-reads
-use Rattle.judge_cli.proofs.text.+put_number.{statement}
-use Rattle.judge_cli.proofs.text.+put_number.Tie.{close}
+use Rattle.text.proofs.text.put_number.Reads as put-number
+use Rattle.text.proofs.text.put_number.Kinds as put-number-kinds
+use Rattle.text.proofs.text.+put_number.Lts-put_number as put-number-lts
+use Rattle.text.proofs.text.put_byte.Reads as put-byte-reads
+use Rattle.text.proofs.text.+put_number.{statement}
+use Rattle.text.proofs.text.+put_number.Tie.{close}
 
 abbrev μ-put-number : Measures 1 put-number-kinds.ps ℕ
 μ-put-number κs a = a .1 .1 .0

@@ -1,9 +1,9 @@
 -- `put_field` meets its contract: a space, and the number behind it.
 use native.Mathlib.Omega.{arith}
 use borrow.Author.Needs.{needs}
-use Rattle.judge_cli.proofs.Putting.{puts-more}
-use Rattle.judge_cli.proofs.text.put_field.Statement.{statement}
-use Rattle.judge_cli.proofs.text.put_field.Tie as tie
+use Rattle.text.proofs.Putting.{puts-more}
+use Rattle.text.proofs.text.put_field.Statement.{statement}
+use Rattle.text.proofs.text.put_field.Tie as tie
 
 put-byte-requires : tie.Need-put-byte-requires
 put-byte-requires c κs = search needs

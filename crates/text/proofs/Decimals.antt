@@ -7,7 +7,7 @@ use mathlib.Core.Path.{_≡_, refl, ap, _∙_}
 use mathlib.Core.List.{[], _∷_, _++_}
 use lib.ListN.{length, length-append}
 use borrow.Author.Tests.{lt-ltb, le-ltb}
-use Rattle.judge_cli.specs.Text.{digit, digits, decimal}
+use Rattle.text.specs.Text.{digit, digits, decimal}
 
 -- it does not matter how many digits are allowed for, if there are enough
 digits-same : (m n x : ℕ) → x < m → x < n → digits m x ≡ digits n x

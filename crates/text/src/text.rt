@@ -1,10 +1,9 @@
-// Text in ASCII, written into a lent buffer from a position on. Each function answers the position behind what it wrote. What is right is said in
-// specs/Text.antt.
+// Text in ASCII, written into a lent buffer from a position on. Each function returns the position after what it wrote.
+// specs/Text.antt says what is right.
 ghost use mathlib.Core.List.{[], _∷_};
 ghost use Prim.Native.Nat.{_+_, _≤_, _<_};
 ghost use lib.ListN.{length};
-ghost use Rattle.judge_cli.specs.Text.{space, lineFeed, decimal};
-ghost use Rattle.judge_cli.specs.Writing.{Puts};
+ghost use Rattle.text.specs.Text.{space, lineFeed, decimal, Puts};
 use buffer::buffer::copy;
 
 const SPACE: u8 = b' ';
@@ -23,7 +22,7 @@ fn put_byte(text: &mut [u8], at: usize, byte: u8) -> usize
 }
 
 // Writes bytes.
-pub(crate) fn put_bytes(text: &mut [u8], at: usize, bytes: &[u8]) -> usize
+pub fn put_bytes(text: &mut [u8], at: usize, bytes: &[u8]) -> usize
     requires { ⌜ at + length (now bytes) ≤ length (now text) ⌝ }
     ensures { λ next. ⌜ Puts (now (bytes .entry)) at (now (text .entry)) next (now (text .exit)) ⌝ }
 {
@@ -44,7 +43,7 @@ fn put_number(text: &mut [u8], at: usize, x: usize) -> usize
 }
 
 // Writes a space and a number.
-pub(crate) fn put_field(text: &mut [u8], at: usize, x: usize) -> usize
+pub fn put_field(text: &mut [u8], at: usize, x: usize) -> usize
     requires { ⌜ at + length (space ∷ decimal x) ≤ length (now text) ⌝ }
     ensures { λ next. ⌜ Puts (space ∷ decimal x) at (now (text .entry)) next (now (text .exit)) ⌝ }
 {
@@ -53,7 +52,7 @@ pub(crate) fn put_field(text: &mut [u8], at: usize, x: usize) -> usize
 }
 
 // Ends a line.
-pub(crate) fn end_line(text: &mut [u8], at: usize) -> usize
+pub fn end_line(text: &mut [u8], at: usize) -> usize
     requires { ⌜ at < length (now text) ⌝ }
     ensures { λ next. ⌜ Puts (lineFeed ∷ []) at (now (text .entry)) next (now (text .exit)) ⌝ }
 {

@@ -1,0 +1,2 @@
+// Lines of decimal fields, written into a lent buffer.
+pub mod text;
