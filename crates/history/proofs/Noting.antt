@@ -33,11 +33,11 @@ noted-call r index count end callers recent table callers' recent' table' e is c
 abbrev pub Fits : List ℕ → ℕ → Event → ℕ → ℕ → Type 0
 Fits table o e kind value = (call : Event) → leaves call ≡ asks e → valueAt table o ≡ valueBy call CallRemove → (kind ≡ kindBy call e) × (value ≡ valueBy call e)
 
-pub add-fits : (table : List ℕ) (o : ℕ) → Fits table o ReturnAdd add (valueAt table o)
-add-fits table o (CallAdd v) l e = (refl, e)
-add-fits table o CallRemove l e = absurd (omega arith)
-add-fits table o ReturnAdd l e = absurd (omega arith)
-add-fits table o (ReturnRemove x) l e = absurd (omega arith)
+pub add-fits : (table : List ℕ) (o value : ℕ) → value ≡ valueAt table o → Fits table o ReturnAdd add value
+add-fits table o value v (CallAdd w) l e = (refl, v ∙ e)
+add-fits table o value v CallRemove l e = absurd (omega arith)
+add-fits table o value v ReturnAdd l e = absurd (omega arith)
+add-fits table o value v (ReturnRemove x) l e = absurd (omega arith)
 
 pub remove-fits : (table : List ℕ) (o : ℕ) (x : Removed) (kind value : ℕ) → kind ≡ removeKind (ReturnRemove x) → value ≡ valueIn (ReturnRemove x)
     → Fits table o (ReturnRemove x) kind value
@@ -48,9 +48,9 @@ remove-fits table o x kind value k v (ReturnRemove y) l e = absurd (omega arith)
 
 -- a record that is a return is noted
 pub noted-return : (r : Record) (index count end : ℕ) (callers recent table table' : List ℕ) (e : Event) → r .event ≡ e → (asks e ≡ 0 → ⊥) → isCall e ≡ 0
-    → (o kind value : ℕ) → Found callers recent (r .client) o → Fits table o e kind value → Entered table o kind value (callAt table o) index table'
+    → (o kind value call : ℕ) → Found callers recent (r .client) o → Fits table o e kind value → call ≡ callAt table o → Entered table o kind value call index table'
     → Noted r index count end callers recent table count callers recent table'
-noted-return r index count end callers recent table table' e is a c o kind value latest fits entered = record { kept = kept }
+noted-return r index count end callers recent table table' e is a c o kind value call latest fits called entered = record { kept = kept }
   where
     kept : (log : List ℕ) (records : List Record) (old : List ℕ) → ReadableLog log records → length records ≡ end → index < end → recordOf records index ≡ r
         → Filled records old index count callers recent table → Filled records old (index + 1) count callers recent table'
@@ -59,4 +59,4 @@ noted-return r index count end callers recent table table' e is a c o kind value
         let ends : Ends records index count o = return-ends readable index (omega arith) (λ z. a (sym (ap asks event) ∙ z)) filled (rw here (latest .latest count (filled .linked))) in
         let was = filled .pending o (ends .below) (omega (arith, ends .returns)) in
         let told = fits (recordOf records (callIndex records o) .event) (ends .asked ∙ ap asks event) (was .value-is) in
-        filled-return readable index (omega arith) filled ends (rw (event, ← told .0, ← told .1, ← was .call-is) entered) (ap isCall event ∙ c)
+        filled-return readable index (omega arith) filled ends (rw (event, ← told .0, ← told .1, ← was .call-is, ← called) entered) (ap isCall event ∙ c)

@@ -21,6 +21,8 @@ use crate::operations::Operations;
 use crate::operations::REMOVE;
 use crate::operations::RETURN;
 use crate::operations::VALUE;
+use crate::operations::call_of;
+use crate::operations::value_of;
 use reader::format::HEADER;
 use reader::format::MAX_RECORDS;
 use record::cursor::read_at;
@@ -93,15 +95,15 @@ fn note(
         }
         Event::ReturnAdd => {
             let o = latest_of(callers, recent, client);
-            let value = table[o * FIELDS + VALUE];
-            let call = table[o * FIELDS + CALL];
+            let value = value_of(table, o);
+            let call = call_of(table, o);
             enter(table, o, ADD, value, call, at);
             count
         }
         Event::ReturnRemove(removed) => {
             let o = latest_of(callers, recent, client);
             let outcome = outcome_of(removed);
-            let call = table[o * FIELDS + CALL];
+            let call = call_of(table, o);
             enter(table, o, outcome.kind, outcome.value, call, at);
             count
         }

@@ -1,9 +1,10 @@
 // The operations of a log in a table of numbers, four for each: its kind, its value, and the positions of its call and its
 // return. What they are is said in specs/Operations.antt, how the table holds them in specs/Table.antt.
 ghost use mathlib.Core.Path.{_≡_};
+ghost use Prim.Native.Nat.{_<_};
 ghost use lib.ListN.{length};
-ghost use Rattle.reader.specs.Log.{readLog, checked};
-ghost use Rattle.history.specs.Table.{tableLength, Tabulated};
+ghost use Rattle.reader.specs.Log.{maxRecords, readLog, checked};
+ghost use Rattle.history.specs.Table.{tableLength, kindAt, valueAt, callAt, returnAt, Tabulated};
 use crate::fill::fill;
 use reader::log::Checked;
 use reader::log::check;
@@ -33,6 +34,38 @@ pub const RETURN: usize = 3;
 pub const TABLE: usize = 4096;
 
 pub type Operations = [u32; TABLE];
+
+// The kind of an operation, by its number.
+pub fn kind_of(table: &Operations, o: usize) -> u32
+    requires { ⌜ o < maxRecords ⌝ }
+    ensures { λ r. ⌜ r ≡ kindAt (now (table .entry)) o ⌝ }
+{
+    table[o * FIELDS + KIND]
+}
+
+// Its value, or 0 where it has none.
+pub fn value_of(table: &Operations, o: usize) -> u32
+    requires { ⌜ o < maxRecords ⌝ }
+    ensures { λ r. ⌜ r ≡ valueAt (now (table .entry)) o ⌝ }
+{
+    table[o * FIELDS + VALUE]
+}
+
+// The position of its call.
+pub fn call_of(table: &Operations, o: usize) -> u32
+    requires { ⌜ o < maxRecords ⌝ }
+    ensures { λ r. ⌜ r ≡ callAt (now (table .entry)) o ⌝ }
+{
+    table[o * FIELDS + CALL]
+}
+
+// The position of its return, or the end where it has not returned.
+pub fn return_of(table: &Operations, o: usize) -> u32
+    requires { ⌜ o < maxRecords ⌝ }
+    ensures { λ r. ⌜ r ≡ returnAt (now (table .entry)) o ⌝ }
+{
+    table[o * FIELDS + RETURN]
+}
 
 // Checks a log and, if it is readable, fills the table with its operations.
 pub fn tabulate(log: &[u8], table: &mut Operations) -> Checked

@@ -48,29 +48,11 @@ enum-told-2 c = search needs
 latest-of-requires : tie.Need-latest-of-requires
 latest-of-requires c κs = c .before .before .before .before .before .pre .leads-down
 
-mul-value : tie.Need-mul-value
-mul-value c = search needs
+value-of-requires : tie.Need-value-of-requires
+value-of-requires c κs = search needs
 
-add-value : tie.Need-add-value
-add-value c = search needs
-
-mul-value-2 : tie.Need-mul-value-2
-mul-value-2 c = search needs
-
-element-copy-out-value : tie.Need-element-copy-out-value
-element-copy-out-value c = search needs
-
-mul-call : tie.Need-mul-call
-mul-call c = search needs
-
-add-call : tie.Need-add-call
-add-call c = search needs
-
-mul-call-2 : tie.Need-mul-call-2
-mul-call-2 c = search needs
-
-element-copy-out-call : tie.Need-element-copy-out-call
-element-copy-out-call c = search needs
+call-of-requires : tie.Need-call-of-requires
+call-of-requires c κs = search needs
 
 enter-requires-3 : tie.Need-enter-requires-3
 enter-requires-3 c κs = search needs
@@ -84,17 +66,8 @@ latest-of-requires-2 c κs = c .before .before .before .before .before .before .
 outcome-of-requires : tie.Need-outcome-of-requires
 outcome-of-requires c κs = search needs
 
-mul-call-3 : tie.Need-mul-call-3
-mul-call-3 c = search needs
-
-add-call-2 : tie.Need-add-call-2
-add-call-2 c = search needs
-
-mul-call-4 : tie.Need-mul-call-4
-mul-call-4 c = search needs
-
-element-copy-out-call-2 : tie.Need-element-copy-out-call-2
-element-copy-out-call-2 c = search needs
+call-of-requires-2 : tie.Need-call-of-requires-2
+call-of-requires-2 c κs = search needs
 
 enter-requires-4 : tie.Need-enter-requires-4
 enter-requires-4 c κs = search needs
@@ -106,12 +79,12 @@ returns-2 : tie.Need-returns-2
 returns-2 c = noted-call _ _ _ _ _ _ _ _ _ _ _ (c .before .before .before .before .before .enum-told .given .1) refl (c .before .before .before .before .before .before .before .before .pre .count-small) (c .before .before .begin2 .ensures) (c .enter2 .ensures)
 
 returns-3 : tie.Need-returns-3
-returns-3 c = noted-return _ _ _ _ _ _ _ _ _ (c .before .before .before .before .before .before .before .enum-told2 .given .1) (λ e. omega arith) refl _ _ _ (c .before .before .before .before .latest-of .ensures)
-    (add-fits (c .before .before .before .before .before .before .before .before .before .before .args .table .now) (c .before .before .before .before .latest-of .result)) (c .enter3 .ensures)
+returns-3 c = noted-return _ _ _ _ _ _ _ _ _ (c .before .before .before .before .before .before .before .before .before .enum-told2 .given .1) (λ e. omega arith) refl _ _ _ _ (c .before .before .before .before .before .before .latest-of .ensures)
+    (add-fits (c .before .before .before .before .before .before .before .before .before .before .before .before .args .table .now) (c .before .before .before .before .before .before .latest-of .result) _ (c .before .before .before .before .value-of .ensures)) (c .before .before .call-of .ensures) (c .enter3 .ensures)
 
 returns-4 : tie.Need-returns-4
-returns-4 c = noted-return _ _ _ _ _ _ _ _ _ (c .before .before .before .before .before .before .before .before .event2 .given .1) (λ e. omega arith) refl _ _ _ (c .before .before .before .before .latest-of2 .ensures)
-    (remove-fits (c .before .before .before .before .before .before .before .before .before .before .before .args .table .now) (c .before .before .before .before .latest-of2 .result) _ _ _ (c .before .before .before .outcome-of .ensures .0) (c .before .before .before .outcome-of .ensures .1)) (c .enter4 .ensures)
+returns-4 c = noted-return _ _ _ _ _ _ _ _ _ (c .before .before .before .before .before .before .before .before .before .event2 .given .1) (λ e. omega arith) refl _ _ _ _ (c .before .before .before .before .before .latest-of2 .ensures)
+    (remove-fits (c .before .before .before .before .before .before .before .before .before .before .before .before .args .table .now) (c .before .before .before .before .before .latest-of2 .result) _ _ _ (c .before .before .before .before .outcome-of .ensures .0) (c .before .before .before .before .outcome-of .ensures .1)) (c .before .before .call-of2 .ensures) (c .enter4 .ensures)
 
 pub note-spec : {M : Type 1} → statement M
 note-spec =
@@ -131,22 +104,13 @@ note-spec =
     add-result-2
     enum-told-2
     latest-of-requires
-    mul-value
-    add-value
-    mul-value-2
-    element-copy-out-value
-    mul-call
-    add-call
-    mul-call-2
-    element-copy-out-call
+    value-of-requires
+    call-of-requires
     enter-requires-3
     enum-known-event-2
     latest-of-requires-2
     outcome-of-requires
-    mul-call-3
-    add-call-2
-    mul-call-4
-    element-copy-out-call-2
+    call-of-requires-2
     enter-requires-4
     returns
     returns-2
