@@ -15,14 +15,13 @@ ghost use Rattle.replay.specs.Trial.{Unmarked, Room, Serves, StepsIn, Tr
 use crate::sheet::listed_on;
 use crate::sheet::operation_at;
 use history::operations::ADD;
-use history::operations::CALL;
 use history::operations::EMPTY_REMOVE;
-use history::operations::FIELDS;
-use history::operations::KIND;
 use history::operations::Operations;
 use history::operations::REMOVE;
-use history::operations::RETURN;
-use history::operations::VALUE;
+use history::operations::call_of;
+use history::operations::kind_of;
+use history::operations::return_of;
+use history::operations::value_of;
 use reader::format::MAX_RECORDS;
 
 // How far an order has been run: the latest call among the operations placed, and where the queue's front and back are.
@@ -113,17 +112,16 @@ fn place(
     }
     // It precedes one that was placed.
     let latest = p.latest;
-    let at = o * FIELDS;
-    if table[at + RETURN] < latest {
+    if return_of(table, o) < latest {
         return Step::Illegal;
     }
     marks[o] = 1;
     let q = Progress {
-        latest: later(latest, table[at + CALL]),
+        latest: later(latest, call_of(table, o)),
         head: p.head,
         tail: p.tail,
     };
-    serve(table[at + KIND], table[at + VALUE], q, queue)
+    serve(kind_of(table, o), value_of(table, o), q, queue)
 }
 
 // Places the operations that a sheet lists, one after the other, and marks them. Answers whether all of them could be placed; if
@@ -160,7 +158,7 @@ fn marked_if_returned(table: &Operations, end: usize, o: usize, marks: &Marks) -
     requires { ⌜ (end ≤ maxRecords) × (o < maxRecords) ⌝ }
     ensures { λ r. ⌜ Decides (ReturnIsMarked end (now (table .entry)) (now (marks .entry)) o) r ⌝ }
 {
-    if end as u32 <= table[o * FIELDS + RETURN] {
+    if end as u32 <= return_of(table, o) {
         return true;
     }
     if marks[o] != 1 {

@@ -7,17 +7,8 @@ use native.Mathlib.Omega.{arith}
 cast-if1 : tie.Need-cast-if1
 cast-if1 c = search needs
 
-mul-if1 : tie.Need-mul-if1
-mul-if1 c = search needs
-
-add-if1 : tie.Need-add-if1
-add-if1 c = search needs
-
-mul-if1-2 : tie.Need-mul-if1-2
-mul-if1-2 c = search needs
-
-element-copy-out-if1 : tie.Need-element-copy-out-if1
-element-copy-out-if1 c = search needs
+return-of-requires : tie.Need-return-of-requires
+return-of-requires c κs = search needs
 
 returns : tie.Need-returns
 returns c = search needs
@@ -34,13 +25,4 @@ returns-3 c = search needs
 pub marked-if-returned-spec : {M : Type 1} → statement M
 marked-if-returned-spec =
     tie.close
-    (tie.spec
-    cast-if1
-    mul-if1
-    add-if1
-    mul-if1-2
-    element-copy-out-if1
-    returns
-    element-copy-out-if2
-    returns-2
-    returns-3)
+    (tie.spec cast-if1 return-of-requires returns element-copy-out-if2 returns-2 returns-3)
