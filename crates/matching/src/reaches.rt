@@ -8,9 +8,8 @@ ghost use Rattle.matching.specs.Held.{Held};
 ghost use Rattle.matching.specs.Matching.{Partners};
 ghost use Rattle.matching.specs.Reaches.{reachBy, ReachTable};
 use crate::values::Numbers;
-use history::operations::CALL;
-use history::operations::FIELDS;
 use history::operations::Operations;
+use history::operations::call_of;
 
 // Where the value of an add stops covering: at the call of its partner, or at the end if it has none. Of other operations the number is not used.
 fn reach_of(table: &Operations, count: usize, end: usize, partner: &Numbers, o: usize) -> u32
@@ -21,7 +20,7 @@ fn reach_of(table: &Operations, count: usize, end: usize, partner: &Numbers, o: 
     if above == 0 {
         return end as u32;
     }
-    table[(above - 1) * FIELDS + CALL]
+    call_of(table, above - 1)
 }
 
 // Fills the table of how far the values of the adds reach.

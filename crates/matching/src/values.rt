@@ -6,11 +6,10 @@ ghost use Rattle.reader.specs.Log.{maxRecords};
 ghost use Rattle.matching.specs.Answers.{First};
 ghost use Rattle.matching.specs.Matching.{AddOf, Cleared, AddedOnce, Noted, Partners};
 use history::operations::ADD;
-use history::operations::FIELDS;
-use history::operations::KIND;
 use history::operations::Operations;
 use history::operations::REMOVE;
-use history::operations::VALUE;
+use history::operations::kind_of;
+use history::operations::value_of;
 use reader::format::MAX_RECORDS;
 
 // A number for each operation.
@@ -23,9 +22,8 @@ fn add_of(table: &Operations, count: usize, value: u32) -> usize
 {
     let mut a = 0;
     while a < count {
-        let at = a * FIELDS;
-        if table[at + VALUE] == value {
-            if table[at + KIND] == ADD {
+        if value_of(table, a) == value {
+            if kind_of(table, a) == ADD {
                 return a;
             }
         }
@@ -39,10 +37,10 @@ fn match_value(table: &Operations, count: usize, r: usize, partner: &mut Numbers
     requires { ⌜ (count ≤ maxRecords) × (r < count) × (length (now partner) ≡ maxRecords) ⌝ }
     ensures { λ _. ⌜ Noted (now (table .entry)) count r (now (partner .entry)) (now (partner .exit)) ⌝ }
 {
-    if table[r * FIELDS + KIND] != REMOVE {
+    if kind_of(table, r) != REMOVE {
         return;
     }
-    let a = add_of(table, count, table[r * FIELDS + VALUE]);
+    let a = add_of(table, count, value_of(table, r));
     if a < count {
         partner[r] = a as u32 + 1;
         partner[a] = r as u32 + 1;

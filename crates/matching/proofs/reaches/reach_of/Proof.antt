@@ -22,23 +22,14 @@ cast-result c = search needs
 returns : tie.Need-returns
 returns c = rw (eq-eqb _ _ (c .if1 .taken)) refl
 
-sub-result : tie.Need-sub-result
-sub-result c = search needs
+sub-call-of : tie.Need-sub-call-of
+sub-call-of c = search needs
 
-mul-result : tie.Need-mul-result
-mul-result c = omega (arith, partner-within (c .before .before .pre .1) (c .before .before .pre .2))
-
-add-result : tie.Need-add-result
-add-result c = omega (arith, partner-within (c .before .before .pre .1) (c .before .before .pre .2))
-
-mul-result-2 : tie.Need-mul-result-2
-mul-result-2 c = omega (arith, partner-within (c .before .before .pre .1) (c .before .before .pre .2))
-
-element-copy-out-result : tie.Need-element-copy-out-result
-element-copy-out-result c = omega (arith, partner-within (c .before .before .pre .1) (c .before .before .pre .2))
+call-of-requires : tie.Need-call-of-requires
+call-of-requires c κs = omega (arith, partner-within (c .before .before .pre .1) (c .before .before .pre .2))
 
 returns-2 : tie.Need-returns-2
-returns-2 c = rw (ne-eqb _ _ (c .before .if1 .left)) refl
+returns-2 c = rw (ne-eqb _ _ (c .before .if1 .left)) (c .call-of .ensures)
 
 pub reach-of-spec : {M : Type 1} → statement M
 reach-of-spec =
@@ -49,9 +40,6 @@ reach-of-spec =
     cast-above
     cast-result
     returns
-    sub-result
-    mul-result
-    add-result
-    mul-result-2
-    element-copy-out-result
+    sub-call-of
+    call-of-requires
     returns-2)

@@ -4,6 +4,7 @@ use Rattle.matching.proofs.values.add_of.Tie as tie
 use Prim.Native.Nat.{_-_}
 use mathlib.Core.Logic.{⊎-elim}
 use borrow.Author.Needs.{needs}
+use native.Mathlib.Omega.{arith}
 use Rattle.matching.specs.Matching.{AddOf}
 use Rattle.matching.proofs.Firsts.{Unfound, first-starts, first-more, first-found, first-none}
 
@@ -16,29 +17,14 @@ abbrev μ-loop : tie.MeasureT-loop
 loop-holds : tie.Need-loop-holds Inv-loop μ-loop
 loop-holds c = first-starts _
 
-mul-at : tie.Need-mul-at Inv-loop μ-loop
-mul-at c = search needs
+value-of-requires : tie.Need-value-of-requires Inv-loop μ-loop
+value-of-requires c κs = search needs
 
-add-if1 : tie.Need-add-if1 Inv-loop μ-loop
-add-if1 c = search needs
-
-mul-if1 : tie.Need-mul-if1 Inv-loop μ-loop
-mul-if1 c = search needs
-
-element-copy-out-if1 : tie.Need-element-copy-out-if1 Inv-loop μ-loop
-element-copy-out-if1 c = search needs
-
-add-if2 : tie.Need-add-if2 Inv-loop μ-loop
-add-if2 c = search needs
-
-mul-if2 : tie.Need-mul-if2 Inv-loop μ-loop
-mul-if2 c = search needs
-
-element-copy-out-if2 : tie.Need-element-copy-out-if2 Inv-loop μ-loop
-element-copy-out-if2 c = search needs
+kind-of-requires : tie.Need-kind-of-requires Inv-loop μ-loop
+kind-of-requires c κs = search needs
 
 returns : tie.Need-returns Inv-loop μ-loop
-returns c = first-found (c .before .before .before .before .before .loop .inv) (record { adds = c .if2 .taken; values = c .before .before .if1 .taken })
+returns c = first-found (c .before .before .before .before .before .loop .inv) (search needs)
 
 add-a : tie.Need-add-a Inv-loop μ-loop
 add-a c = search needs
@@ -47,7 +33,7 @@ loop-less : tie.Need-loop-less Inv-loop μ-loop
 loop-less c = search needs
 
 loop-again : tie.Need-loop-again Inv-loop μ-loop
-loop-again c = first-more (c .before .before .before .loop .inv) (c .before .before .loop-test .taken) (λ p. ⊎-elim (λ w. w .2 .left (p .adds)) (λ w. w .left (p .values)) (c .if1 .came))
+loop-again c = first-more (c .before .before .before .loop .inv) (c .before .before .loop-test .taken) (λ p. ⊎-elim (λ w. omega arith) (λ w. omega arith) (c .if1 .came))
 
 returns-2 : tie.Need-returns-2 Inv-loop μ-loop
 returns-2 c = first-none (c .before .loop .inv) (c .loop-test .left)
@@ -59,13 +45,8 @@ add-of-spec =
     Inv-loop
     μ-loop
     loop-holds
-    mul-at
-    add-if1
-    mul-if1
-    element-copy-out-if1
-    add-if2
-    mul-if2
-    element-copy-out-if2
+    value-of-requires
+    kind-of-requires
     returns
     add-a
     loop-less

@@ -4,32 +4,14 @@ use Rattle.matching.proofs.values.match_value.Statement.{statement}
 use Rattle.matching.proofs.values.match_value.Tie as tie
 use Rattle.matching.proofs.Matching.{noted-other, noted-unknown, noted-pair}
 
-mul-if1 : tie.Need-mul-if1
-mul-if1 c = search needs
-
-add-if1 : tie.Need-add-if1
-add-if1 c = search needs
-
-mul-if1-2 : tie.Need-mul-if1-2
-mul-if1-2 c = search needs
-
-element-copy-out-if1 : tie.Need-element-copy-out-if1
-element-copy-out-if1 c = search needs
+kind-of-requires : tie.Need-kind-of-requires
+kind-of-requires c κs = search needs
 
 returns : tie.Need-returns
-returns c = noted-other _ _ _ _ (c .if1 .taken)
+returns c = noted-other _ _ _ _ (rw (c .before .kind-of .ensures) at (c .if1 .taken))
 
-mul-add-of : tie.Need-mul-add-of
-mul-add-of c = search needs
-
-add-add-of : tie.Need-add-add-of
-add-add-of c = search needs
-
-mul-add-of-2 : tie.Need-mul-add-of-2
-mul-add-of-2 c = search needs
-
-element-copy-out-add-of : tie.Need-element-copy-out-add-of
-element-copy-out-add-of c = search needs
+value-of-requires : tie.Need-value-of-requires
+value-of-requires c κs = search needs
 
 add-of-requires : tie.Need-add-of-requires
 add-of-requires c κs = search needs
@@ -59,24 +41,18 @@ element-write-partner-2 : tie.Need-element-write-partner-2
 element-write-partner-2 c = search needs
 
 returns-2 : tie.Need-returns-2
-returns-2 c = noted-pair _ _ _ _ (c .before .before .before .if1 .left) (c .before .before .before .before .before .pre .0) (c .before .before .before .before .before .pre .1) (c .before .before .before .before .before .pre .2) (c .before .add-of .ensures) (c .if2 .taken)
+returns-2 c = noted-pair _ _ _ _ (rw (c .before .before .before .before .kind-of .ensures) at (c .before .before .before .if1 .left)) (c .before .before .before .before .before .pre .0) (c .before .before .before .before .before .pre .1) (c .before .before .before .before .before .pre .2) (rw (c .before .before .value-of .ensures) at (c .before .add-of .ensures)) (c .if2 .taken)
 
 returns-3 : tie.Need-returns-3
-returns-3 c = noted-unknown _ _ _ _ (c .before .add-of .ensures) (c .if2 .left)
+returns-3 c = noted-unknown _ _ _ _ (rw (c .before .before .value-of .ensures) at (c .before .add-of .ensures)) (c .if2 .left)
 
 pub match-value-spec : {M : Type 1} → statement M
 match-value-spec =
     tie.close
     (tie.spec
-    mul-if1
-    add-if1
-    mul-if1-2
-    element-copy-out-if1
+    kind-of-requires
     returns
-    mul-add-of
-    add-add-of
-    mul-add-of-2
-    element-copy-out-add-of
+    value-of-requires
     add-of-requires
     cast-partner
     add-partner
