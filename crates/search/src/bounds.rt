@@ -11,10 +11,9 @@ ghost use Rattle.matching.specs.Matching.{Partners};
 ghost use Rattle.search.specs.Bounds.{limitBy, LimitTable, BoundTable};
 use history::operations::ADD;
 use history::operations::EMPTY_REMOVE;
-use history::operations::FIELDS;
-use history::operations::KIND;
 use history::operations::Operations;
-use history::operations::RETURN;
+use history::operations::kind_of;
+use history::operations::return_of;
 use matching::values::Numbers;
 
 // One number more than there are operations.
@@ -35,17 +34,16 @@ fn limit_of(
     requires { ⌜ Held (tabled count end (now table)) × Partners (now table) count (now partner) × (length (now gaps) ≡ maxRecords) × (o < count) ⌝ }
     ensures { λ r. ⌜ r ≡ limitBy (now (table .entry)) end (now (partner .entry)) (now (gaps .entry)) o ⌝ }
 {
-    let at = o * FIELDS;
-    let kind = table[at + KIND];
+    let kind = kind_of(table, o);
     match kind {
         ADD => {
             let above = partner[o] as usize;
             if above == 0 {
                 return end as u32 + 1;
             }
-            table[(above - 1) * FIELDS + RETURN]
+            return_of(table, above - 1)
         }
-        EMPTY_REMOVE => gaps[table[at + RETURN] as usize - 1],
+        EMPTY_REMOVE => gaps[return_of(table, o) as usize - 1],
         _ => end as u32 + 1,
     }
 }

@@ -9,10 +9,9 @@ ghost use Rattle.matching.specs.Held.{Held};
 ghost use Rattle.matching.specs.Matching.{Cleared};
 ghost use Rattle.search.specs.Gaps.{Opened, Swept, Uncovered};
 use history::operations::ADD;
-use history::operations::FIELDS;
-use history::operations::KIND;
 use history::operations::Operations;
-use history::operations::RETURN;
+use history::operations::kind_of;
+use history::operations::return_of;
 use matching::values::Numbers;
 
 // The larger of two numbers.
@@ -29,9 +28,8 @@ fn open_gaps(table: &Operations, count: usize, end: usize, reach: &Numbers, gaps
 {
     let mut a = 0;
     while a < count {
-        let at = a * FIELDS;
-        if table[at + KIND] == ADD {
-            let returned = table[at + RETURN] as usize;
+        if kind_of(table, a) == ADD {
+            let returned = return_of(table, a) as usize;
             if returned < end {
                 gaps[returned] = further(gaps[returned], reach[a]);
             }

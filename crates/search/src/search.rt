@@ -18,14 +18,13 @@ use crate::bounds::Bounds;
 use crate::bounds::tighter;
 use crate::order::Ended;
 use history::operations::ADD;
-use history::operations::CALL;
 use history::operations::EMPTY_REMOVE;
-use history::operations::FIELDS;
-use history::operations::KIND;
 use history::operations::Operations;
 use history::operations::REMOVE;
-use history::operations::RETURN;
-use history::operations::VALUE;
+use history::operations::call_of;
+use history::operations::kind_of;
+use history::operations::return_of;
+use history::operations::value_of;
 use matching::values::Numbers;
 use reader::format::MAX_RECORDS;
 use table::table::push;
@@ -53,7 +52,7 @@ fn is_due(table: &Operations, count: usize, end: usize, reach: &Numbers, o: usiz
     requires { ⌜ Held (tabled count end (now table)) × Reaching (tabled count end (now table)) (now reach) × (o < count) ⌝ }
     ensures { λ r. ⌜ Decides (Due (tabled count end (now (table .entry))) o) r ⌝ }
 {
-    if table[o * FIELDS + RETURN] < end as u32 {
+    if return_of(table, o) < end as u32 {
         return true;
     }
     reach[o] < end as u32
@@ -68,7 +67,7 @@ fn least_return(table: &Operations, count: usize, end: usize, waiting: &Numbers,
     let mut i = 0;
     while i < n {
         let o = waiting[i] as usize;
-        least = tighter(least, table[o * FIELDS + RETURN]);
+        least = tighter(least, return_of(table, o));
         i += 1;
     }
     least
@@ -82,7 +81,7 @@ fn is_enabled(table: &Operations, count: usize, a: Admission) -> bool
     if count <= a.next {
         return false;
     }
-    table[a.next * FIELDS + CALL] < a.least
+    call_of(table, a.next) < a.least
 }
 
 // Lets the next operation wait, if the judge lists it. That may make the least return earlier.
@@ -109,7 +108,7 @@ fn admit_next(
     Admission {
         next: next + 1,
         waiting: a.waiting + 1,
-        least: tighter(a.least, table[next * FIELDS + RETURN]),
+        least: tighter(a.least, return_of(table, next)),
     }
 }
 
@@ -170,8 +169,7 @@ fn fits(
     requires { ⌜ Held (tabled count end (now table)) × QueueRoom (tabled count end (now table)) s (now queue) × (o < count) ⌝ }
     ensures { λ r. ⌜ Decides (Fit (tabled count end (now (table .entry))) (now (reach .entry)) (now (queue .entry)) s cap o) r ⌝ }
 {
-    let at = o * FIELDS;
-    let kind = table[at + KIND];
+    let kind = kind_of(table, o);
     let head = s.head;
     match kind {
         ADD => reach[o] < cap,
@@ -180,7 +178,7 @@ fn fits(
                 return false;
             }
             let front = queue[head] as usize;
-            table[front * FIELDS + VALUE] == table[at + VALUE]
+            value_of(table, front) == value_of(table, o)
         }
         EMPTY_REMOVE => head == s.tail,
         _ => false,
@@ -263,7 +261,7 @@ fn place(
     let o = waiting[i];
     remove(waiting, s.waiting, i);
     push(list, s.placed, o);
-    serve(table[o as usize * FIELDS + KIND], o, s, queue)
+    serve(kind_of(table, o as usize), o, s, queue)
 }
 
 // Searches for an order and lists it.

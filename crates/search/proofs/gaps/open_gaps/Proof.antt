@@ -20,26 +20,11 @@ abbrev μ-loop : tie.MeasureT-loop
 loop-holds : tie.Need-loop-holds Inv-loop μ-loop
 loop-holds c = (omega arith, opened-none _ _ (c .pre .2))
 
-mul-at : tie.Need-mul-at Inv-loop μ-loop
-mul-at c = search needs
+kind-of-requires : tie.Need-kind-of-requires Inv-loop μ-loop
+kind-of-requires c κs = search needs
 
-add-if1 : tie.Need-add-if1 Inv-loop μ-loop
-add-if1 c = search needs
-
-mul-if1 : tie.Need-mul-if1 Inv-loop μ-loop
-mul-if1 c = search needs
-
-element-copy-out-if1 : tie.Need-element-copy-out-if1 Inv-loop μ-loop
-element-copy-out-if1 c = search needs
-
-add-returned : tie.Need-add-returned Inv-loop μ-loop
-add-returned c = search needs
-
-mul-returned : tie.Need-mul-returned Inv-loop μ-loop
-mul-returned c = search needs
-
-element-copy-out-returned : tie.Need-element-copy-out-returned Inv-loop μ-loop
-element-copy-out-returned c = search needs
+return-of-requires : tie.Need-return-of-requires Inv-loop μ-loop
+return-of-requires c κs = search needs
 
 cast-returned : tie.Need-cast-returned Inv-loop μ-loop
 cast-returned c = omega (arith, return-within (c .before .before .before .before .before .pre .0) (c .before .before .before .loop-test .taken))
@@ -76,8 +61,8 @@ loop-again c =
     let opened = c .before .before .before .loop .inv .1 in (
       omega arith,
       ⊎-elim
-          (λ w. rw (w .6) (opened-add opened (c .before .before .before .before .pre .0 .short) (record { known = c .before .before .loop-test .taken; kinds = w .0 .taken }) (w .2 .taken) (w .5 .ensures)))
-          (⊎-elim (λ w. rw (w .3) (opened-other opened (λ is r. omega (arith, w .2 .left)))) (λ w. rw (w .1) (opened-other opened (λ is r. w .0 .left (is .kinds)))))
+          (λ w. rw (w .6, w .1 .ensures) (opened-add opened (c .before .before .before .before .pre .0 .short) (record { known = c .before .before .loop-test .taken; kinds = rw (c .before .kind-of .ensures) at (w .0 .taken) }) (rw (w .1 .ensures) at (w .2 .taken)) (rw (w .1 .ensures) at (w .5 .ensures))))
+          (⊎-elim (λ w. rw (w .3) (opened-other opened (λ is r. omega (arith, w .2 .left)))) (λ w. rw (w .1) (opened-other opened (λ is r. omega (arith, w .0 .left)))))
           (c .if1 .came),
     )
 
@@ -91,13 +76,8 @@ open-gaps-spec =
     Inv-loop
     μ-loop
     loop-holds
-    mul-at
-    add-if1
-    mul-if1
-    element-copy-out-if1
-    add-returned
-    mul-returned
-    element-copy-out-returned
+    kind-of-requires
+    return-of-requires
     cast-returned
     mul-further
     element-copy-out-further

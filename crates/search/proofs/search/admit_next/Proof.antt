@@ -26,23 +26,14 @@ add-t14 c = search needs
 add-t15 : tie.Need-add-t15
 add-t15 c = search needs
 
-mul-tighter : tie.Need-mul-tighter
-mul-tighter c = search needs
-
-add-tighter : tie.Need-add-tighter
-add-tighter c = search needs
-
-mul-tighter-2 : tie.Need-mul-tighter-2
-mul-tighter-2 c = search needs
-
-element-copy-out-tighter : tie.Need-element-copy-out-tighter
-element-copy-out-tighter c = search needs
+return-of-requires : tie.Need-return-of-requires
+return-of-requires c κs = search needs
 
 tighter-requires : tie.Need-tighter-requires
 tighter-requires c κs = search needs
 
 returns-2 : tie.Need-returns-2
-returns-2 c = admitted-more (c .before .before .before .before .before .before .before .pre .0) _ (c .before .before .before .before .before .before .before .pre .3) (rw (not-false (c .before .before .before .before .before .before .is-due .result) (c .before .before .before .before .before .if1 .left)) at (c .before .before .before .before .before .before .is-due .ensures)) (c .before .before .before .before .before .before .before .pre .4) (c .before .before .before .push .ensures) (c .tighter .ensures)
+returns-2 c = admitted-more (c .before .before .before .before .before .before .before .pre .0) _ (c .before .before .before .before .before .before .before .pre .3) (rw (not-false (c .before .before .before .before .before .before .is-due .result) (c .before .before .before .before .before .if1 .left)) at (c .before .before .before .before .before .before .is-due .ensures)) (c .before .before .before .before .before .before .before .pre .4) (c .before .before .before .push .ensures) (rw (c .before .return-of .ensures) at (c .tighter .ensures))
 
 pub admit-next-spec : {M : Type 1} → statement M
 admit-next-spec =
@@ -55,9 +46,6 @@ admit-next-spec =
     push-requires
     add-t14
     add-t15
-    mul-tighter
-    add-tighter
-    mul-tighter-2
-    element-copy-out-tighter
+    return-of-requires
     tighter-requires
     returns-2)

@@ -9,22 +9,11 @@ use Rattle.search.proofs.search.is_enabled.Tie as tie
 returns : tie.Need-returns
 returns c = search needs
 
-mul-result : tie.Need-mul-result
-mul-result c = search needs
-
-add-result : tie.Need-add-result
-add-result c = search needs
-
-mul-result-2 : tie.Need-mul-result-2
-mul-result-2 c = search needs
-
-element-copy-out-result : tie.Need-element-copy-out-result
-element-copy-out-result c = search needs
+call-of-requires : tie.Need-call-of-requires
+call-of-requires c κs = search needs
 
 returns-2 : tie.Need-returns-2
-returns-2 c = decided-less {P = (c .before .before .before .before .before .args .a .next < c .before .before .before .before .before .args .count) × (callAt (c .before .before .before .before .before .args .table .now) (c .before .before .before .before .before .args .a .next) < c .before .before .before .before .before .args .a .least)} _ _ (λ l. (c .before .before .before .if1 .left, l)) (λ enabled. enabled .1)
+returns-2 c = rw (c .before .call-of .ensures) (decided-less {P = (c .before .before .before .before .args .a .next < c .before .before .before .before .args .count) × (callAt (c .before .before .before .before .args .table .now) (c .before .before .before .before .args .a .next) < c .before .before .before .before .args .a .least)} _ _ (λ l. (c .before .before .if1 .left, l)) (λ enabled. enabled .1))
 
 pub is-enabled-spec : {M : Type 1} → statement M
-is-enabled-spec =
-    tie.close
-    (tie.spec returns mul-result add-result mul-result-2 element-copy-out-result returns-2)
+is-enabled-spec = tie.close (tie.spec returns call-of-requires returns-2)

@@ -32,17 +32,8 @@ element-copy-out-o c = omega (arith, c .before .before .pre .1, c .loop-test .ta
 cast-o : tie.Need-cast-o Inv-loop μ-loop
 cast-o c = omega (arith, c .before .before .before .pre .3 _ (entry (c .before .before .before .args .waiting .now) (c .before .before .before .args .n) (c .before .before .loop .i) (omega (arith, c .before .before .before .pre .1, c .before .before .before .pre .2)) (c .before .loop-test .taken)), c .before .before .before .pre .0 .few)
 
-mul-tighter : tie.Need-mul-tighter Inv-loop μ-loop
-mul-tighter c = omega (arith, c .before .before .before .pre .3 _ (entry (c .before .before .before .args .waiting .now) (c .before .before .before .args .n) (c .before .before .loop .i) (omega (arith, c .before .before .before .pre .1, c .before .before .before .pre .2)) (c .before .loop-test .taken)), c .before .before .before .pre .0 .few)
-
-add-tighter : tie.Need-add-tighter Inv-loop μ-loop
-add-tighter c = omega (arith, c .before .before .before .pre .3 _ (entry (c .before .before .before .args .waiting .now) (c .before .before .before .args .n) (c .before .before .loop .i) (omega (arith, c .before .before .before .pre .1, c .before .before .before .pre .2)) (c .before .loop-test .taken)), c .before .before .before .pre .0 .few)
-
-mul-tighter-2 : tie.Need-mul-tighter-2 Inv-loop μ-loop
-mul-tighter-2 c = omega (arith, c .before .before .before .pre .3 _ (entry (c .before .before .before .args .waiting .now) (c .before .before .before .args .n) (c .before .before .loop .i) (omega (arith, c .before .before .before .pre .1, c .before .before .before .pre .2)) (c .before .loop-test .taken)), c .before .before .before .pre .0 .few)
-
-element-copy-out-tighter : tie.Need-element-copy-out-tighter Inv-loop μ-loop
-element-copy-out-tighter c = omega (arith, c .before .before .before .pre .3 _ (entry (c .before .before .before .args .waiting .now) (c .before .before .before .args .n) (c .before .before .loop .i) (omega (arith, c .before .before .before .pre .1, c .before .before .before .pre .2)) (c .before .loop-test .taken)), c .before .before .before .pre .0 .few)
+return-of-requires : tie.Need-return-of-requires Inv-loop μ-loop
+return-of-requires c κs = omega (arith, c .before .before .before .pre .3 _ (entry (c .before .before .before .args .waiting .now) (c .before .before .before .args .n) (c .before .before .loop .i) (omega (arith, c .before .before .before .pre .1, c .before .before .before .pre .2)) (c .before .loop-test .taken)), c .before .before .before .pre .0 .few)
 
 tighter-requires : tie.Need-tighter-requires Inv-loop μ-loop
 tighter-requires c κs = search needs
@@ -54,7 +45,7 @@ loop-less : tie.Need-loop-less Inv-loop μ-loop
 loop-less c = omega (arith, c .before .before .before .loop-test .taken)
 
 loop-again : tie.Need-loop-again Inv-loop μ-loop
-loop-again c = (omega (arith, c .before .before .before .loop-test .taken), least-next (c .before .before .before .before .before .args .waiting .now) (c .before .before .before .before .loop .i) (omega (arith, c .before .before .before .loop-test .taken, c .before .before .before .before .before .pre .1, c .before .before .before .before .before .pre .2)) (c .before .before .before .before .loop .inv .1) (c .tighter .ensures))
+loop-again c = (omega (arith, c .before .before .before .loop-test .taken), least-next (c .before .before .before .before .before .args .waiting .now) (c .before .before .before .before .loop .i) (omega (arith, c .before .before .before .loop-test .taken, c .before .before .before .before .before .pre .1, c .before .before .before .before .before .pre .2)) (c .before .before .before .before .loop .inv .1) (rw (c .before .return-of .ensures) at (c .tighter .ensures)))
 
 returns : tie.Need-returns Inv-loop μ-loop
 returns c = let all : c .before .loop .i ≡ c .before .before .args .n = omega (arith, c .before .loop .inv .0, c .loop-test .left) in rw all at (c .before .loop .inv .1)
@@ -70,10 +61,7 @@ least-return-spec =
     mul-o
     element-copy-out-o
     cast-o
-    mul-tighter
-    add-tighter
-    mul-tighter-2
-    element-copy-out-tighter
+    return-of-requires
     tighter-requires
     add-i
     loop-less

@@ -17,26 +17,17 @@ remove-requires c κs = search needs
 push-requires : tie.Need-push-requires
 push-requires c κs = search needs
 
-cast-serve : tie.Need-cast-serve
-cast-serve c = omega (arith, c .before .before .before .before .before .pre .1 .known _ (entry (c .before .before .before .before .before .args .waiting .now) (c .before .before .before .before .before .args .s .waiting) (c .before .before .before .before .before .args .i) (omega (arith, c .before .before .before .before .before .pre .1 .within, c .before .before .before .before .before .pre .1 .next-within, c .before .before .before .before .before .pre .1 .sized, c .before .before .before .before .before .pre .0 .few)) (c .before .before .before .before .before .pre .2)), c .before .before .before .before .before .pre .0 .few)
+cast-kind-of : tie.Need-cast-kind-of
+cast-kind-of c = omega (arith, c .before .before .before .before .before .pre .1 .known _ (entry (c .before .before .before .before .before .args .waiting .now) (c .before .before .before .before .before .args .s .waiting) (c .before .before .before .before .before .args .i) (omega (arith, c .before .before .before .before .before .pre .1 .within, c .before .before .before .before .before .pre .1 .next-within, c .before .before .before .before .before .pre .1 .sized, c .before .before .before .before .before .pre .0 .few)) (c .before .before .before .before .before .pre .2)), c .before .before .before .before .before .pre .0 .few)
 
-mul-serve : tie.Need-mul-serve
-mul-serve c = omega (arith, c .before .before .before .before .before .pre .1 .known _ (entry (c .before .before .before .before .before .args .waiting .now) (c .before .before .before .before .before .args .s .waiting) (c .before .before .before .before .before .args .i) (omega (arith, c .before .before .before .before .before .pre .1 .within, c .before .before .before .before .before .pre .1 .next-within, c .before .before .before .before .before .pre .1 .sized, c .before .before .before .before .before .pre .0 .few)) (c .before .before .before .before .before .pre .2)), c .before .before .before .before .before .pre .0 .few)
-
-add-serve : tie.Need-add-serve
-add-serve c = omega (arith, c .before .before .before .before .before .pre .1 .known _ (entry (c .before .before .before .before .before .args .waiting .now) (c .before .before .before .before .before .args .s .waiting) (c .before .before .before .before .before .args .i) (omega (arith, c .before .before .before .before .before .pre .1 .within, c .before .before .before .before .before .pre .1 .next-within, c .before .before .before .before .before .pre .1 .sized, c .before .before .before .before .before .pre .0 .few)) (c .before .before .before .before .before .pre .2)), c .before .before .before .before .before .pre .0 .few)
-
-mul-serve-2 : tie.Need-mul-serve-2
-mul-serve-2 c = omega (arith, c .before .before .before .before .before .pre .1 .known _ (entry (c .before .before .before .before .before .args .waiting .now) (c .before .before .before .before .before .args .s .waiting) (c .before .before .before .before .before .args .i) (omega (arith, c .before .before .before .before .before .pre .1 .within, c .before .before .before .before .before .pre .1 .next-within, c .before .before .before .before .before .pre .1 .sized, c .before .before .before .before .before .pre .0 .few)) (c .before .before .before .before .before .pre .2)), c .before .before .before .before .before .pre .0 .few)
-
-element-copy-out-serve : tie.Need-element-copy-out-serve
-element-copy-out-serve c = omega (arith, c .before .before .before .before .before .pre .1 .known _ (entry (c .before .before .before .before .before .args .waiting .now) (c .before .before .before .before .before .args .s .waiting) (c .before .before .before .before .before .args .i) (omega (arith, c .before .before .before .before .before .pre .1 .within, c .before .before .before .before .before .pre .1 .next-within, c .before .before .before .before .before .pre .1 .sized, c .before .before .before .before .before .pre .0 .few)) (c .before .before .before .before .before .pre .2)), c .before .before .before .before .before .pre .0 .few)
+kind-of-requires : tie.Need-kind-of-requires
+kind-of-requires c κs = omega (arith, c .before .before .before .before .before .pre .1 .known _ (entry (c .before .before .before .before .before .args .waiting .now) (c .before .before .before .before .before .args .s .waiting) (c .before .before .before .before .before .args .i) (omega (arith, c .before .before .before .before .before .pre .1 .within, c .before .before .before .before .before .pre .1 .next-within, c .before .before .before .before .before .pre .1 .sized, c .before .before .before .before .before .pre .0 .few)) (c .before .before .before .before .before .pre .2)), c .before .before .before .before .before .pre .0 .few)
 
 serve-requires : tie.Need-serve-requires
 serve-requires c κs = search needs
 
 returns : tie.Need-returns
-returns c = record { placed-is = c .serve .ensures .placed-is; stands = λ reach limit cap reaching limits single capped ready first. ready-places (c .before .before .before .before .before .before .before .before .pre .0) ready reaching limits capped single (c .before .before .before .before .before .before .before .before .pre .2) first (c .before .before .before .before .before .remove .ensures .1) (c .before .before .before .before .before .remove .ensures .0) (c .before .before .before .push .ensures) (c .serve .ensures) }
+returns c = record { placed-is = c .serve .ensures .placed-is; stands = λ reach limit cap reaching limits single capped ready first. ready-places (c .before .before .before .before .before .before .before .before .pre .0) ready reaching limits capped single (c .before .before .before .before .before .before .before .before .pre .2) first (c .before .before .before .before .before .remove .ensures .1) (c .before .before .before .before .before .remove .ensures .0) (c .before .before .before .push .ensures) (rw (c .before .before .kind-of .ensures) at (c .serve .ensures)) }
 
 pub place-spec : {M : Type 1} → statement M
 place-spec =
@@ -46,10 +37,7 @@ place-spec =
     element-copy-out-o
     remove-requires
     push-requires
-    cast-serve
-    mul-serve
-    add-serve
-    mul-serve-2
-    element-copy-out-serve
+    cast-kind-of
+    kind-of-requires
     serve-requires
     returns)
