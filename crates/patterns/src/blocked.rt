@@ -9,11 +9,10 @@ ghost use Rattle.matching.specs.Answers.{First};
 ghost use Rattle.matching.specs.Matching.{Partners};
 ghost use Rattle.patterns.specs.Blocked.{patternBy, Blocks, Blocking};
 use history::operations::ADD;
-use history::operations::CALL;
-use history::operations::FIELDS;
-use history::operations::KIND;
 use history::operations::Operations;
-use history::operations::RETURN;
+use history::operations::call_of;
+use history::operations::kind_of;
+use history::operations::return_of;
 use matching::values::Numbers;
 
 // The patterns that a pair of adds shows.
@@ -33,18 +32,17 @@ fn blocks(
     requires { ⌜ (count ≤ maxRecords) × (a < count) × (b < count) × Partners (now table) count (now partner) × (length (now reach) ≡ maxRecords) ⌝ }
     ensures { λ r. ⌜ Decides (Blocks (now (table .entry)) (now (partner .entry)) (now (reach .entry)) a b) r ⌝ }
 {
-    let at = b * FIELDS;
-    if table[at + KIND] != ADD {
+    if kind_of(table, b) != ADD {
         return false;
     }
     let above = partner[b] as usize;
     if above == 0 {
         return false;
     }
-    if table[at + CALL] <= table[a * FIELDS + RETURN] {
+    if call_of(table, b) <= return_of(table, a) {
         return false;
     }
-    table[(above - 1) * FIELDS + RETURN] < reach[a]
+    return_of(table, above - 1) < reach[a]
 }
 
 // The lowest add that add a blocks, or `count` if there is none.
@@ -88,7 +86,7 @@ fn shows_blocking(
     requires { ⌜ (count ≤ maxRecords) × (a < count) × Partners (now table) count (now partner) × (length (now reach) ≡ maxRecords) ⌝ }
     ensures { λ r. ⌜ Decides (Blocking (now (table .entry)) count (now (partner .entry)) (now (reach .entry)) pattern a) r ⌝ }
 {
-    if table[a * FIELDS + KIND] != ADD {
+    if kind_of(table, a) != ADD {
         return false;
     }
     if pattern_of(partner, a) != pattern {

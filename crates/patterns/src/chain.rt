@@ -11,12 +11,11 @@ ghost use Rattle.matching.specs.Held.{Held};
 ghost use Rattle.matching.specs.Reaches.{Reaching};
 ghost use Rattle.patterns.specs.Chains.{ReturnedAdd, Adds, Chained, FirstChained};
 use history::operations::ADD;
-use history::operations::CALL;
 use history::operations::EMPTY_REMOVE;
-use history::operations::FIELDS;
-use history::operations::KIND;
 use history::operations::Operations;
-use history::operations::RETURN;
+use history::operations::call_of;
+use history::operations::kind_of;
+use history::operations::return_of;
 use matching::values::Numbers;
 use reader::format::MAX_RECORDS;
 
@@ -25,11 +24,10 @@ fn is_returned_add(table: &Operations, count: usize, end: usize, a: usize) -> bo
     requires { ⌜ (count ≤ maxRecords) × (end ≤ maxRecords) × (a < count) ⌝ }
     ensures { λ r. ⌜ Decides (ReturnedAdd (tabled count end (now (table .entry))) a) r ⌝ }
 {
-    let at = a * FIELDS;
-    if table[at + KIND] != ADD {
+    if kind_of(table, a) != ADD {
         return false;
     }
-    table[at + RETURN] < end as u32
+    return_of(table, a) < end as u32
 }
 
 // Lists the adds that have returned, in their order. Answers how many there are.
@@ -64,8 +62,8 @@ fn chain(
     requires { ⌜ Held (tabled count end (now table)) × Reaching (tabled count end (now table)) (now reach) × Adds (tabled count end (now table)) count n (now adds) × Is (tabled count end (now table)) emptyRemove e × (length (now list) ≡ maxRecords) ⌝ }
     ensures { λ k. ⌜ Chained (tabled count end (now (table .entry))) e k (now (list .exit)) ⌝ }
 {
-    let until = table[e * FIELDS + RETURN];
-    let mut gap = table[e * FIELDS + CALL];
+    let until = return_of(table, e);
+    let mut gap = call_of(table, e);
     let mut listed = 1;
     list[0] = e as u32;
     'gaps: while gap < until {
@@ -82,7 +80,7 @@ fn chain(
             }
             let a = adds[i] as usize;
             if far < reach[a] {
-                if table[a * FIELDS + RETURN] <= gap {
+                if return_of(table, a) <= gap {
                     far = reach[a];
                     list[listed] = a as u32;
                 }
@@ -110,7 +108,7 @@ pub(crate) fn false_empty(
     let n = list_adds(table, count, end, &mut adds);
     let mut e = 0;
     while e < count {
-        if table[e * FIELDS + KIND] == EMPTY_REMOVE {
+        if kind_of(table, e) == EMPTY_REMOVE {
             let listed = chain(table, count, end, reach, &adds, n, e, list);
             if 0 < listed {
                 return listed;

@@ -7,12 +7,11 @@ ghost use Rattle.history.specs.Answers.{Decides};
 ghost use Rattle.matching.specs.Answers.{First};
 ghost use Rattle.matching.specs.Matching.{Partners};
 ghost use Rattle.patterns.specs.Signs.{Shows, Again};
-use history::operations::CALL;
-use history::operations::FIELDS;
-use history::operations::KIND;
 use history::operations::Operations;
 use history::operations::REMOVE;
-use history::operations::RETURN;
+use history::operations::call_of;
+use history::operations::kind_of;
+use history::operations::return_of;
 use matching::values::Numbers;
 
 // The patterns that a remove shows.
@@ -27,7 +26,7 @@ fn shows(table: &Operations, count: usize, partner: &Numbers, r: usize, pattern:
     requires { ⌜ (count ≤ maxRecords) × (r < count) × Partners (now table) count (now partner) ⌝ }
     ensures { λ b. ⌜ Decides (Shows (now (table .entry)) (now (partner .entry)) pattern r) b ⌝ }
 {
-    if table[r * FIELDS + KIND] != REMOVE {
+    if kind_of(table, r) != REMOVE {
         return false;
     }
     let above = partner[r] as usize;
@@ -37,7 +36,7 @@ fn shows(table: &Operations, count: usize, partner: &Numbers, r: usize, pattern:
     let a = above - 1;
     match pattern {
         TWICE => partner[a] != r as u32 + 1,
-        EARLY => table[r * FIELDS + RETURN] < table[a * FIELDS + CALL],
+        EARLY => return_of(table, r) < call_of(table, a),
         _ => false,
     }
 }
@@ -69,7 +68,7 @@ pub(crate) fn removed_again(table: &Operations, count: usize, partner: &Numbers,
 {
     let mut s = r + 1;
     while s < count {
-        if table[s * FIELDS + KIND] == REMOVE {
+        if kind_of(table, s) == REMOVE {
             if partner[s] == partner[r] {
                 return s;
             }

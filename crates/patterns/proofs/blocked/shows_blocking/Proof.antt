@@ -5,17 +5,8 @@ use mathlib.Core.Path.{sym, _∙_}
 use borrow.Author.Needs.{needs}
 use Rattle.patterns.proofs.Blocking.{decided-blocking}
 
-mul-if1 : tie.Need-mul-if1
-mul-if1 c = search needs
-
-add-if1 : tie.Need-add-if1
-add-if1 c = search needs
-
-mul-if1-2 : tie.Need-mul-if1-2
-mul-if1-2 c = search needs
-
-element-copy-out-if1 : tie.Need-element-copy-out-if1
-element-copy-out-if1 c = search needs
+kind-of-requires : tie.Need-kind-of-requires
+kind-of-requires c κs = search needs
 
 returns : tie.Need-returns
 returns c = search needs
@@ -30,18 +21,9 @@ blocked-by-requires : tie.Need-blocked-by-requires
 blocked-by-requires c κs = search needs
 
 returns-3 : tie.Need-returns-3
-returns-3 c = decided-blocking _ _ _ _ _ _ _ (c .before .before .before .if1 .left) (sym (c .before .before .pattern-of .ensures) ∙ c .before .if2 .left) (c .blocked-by .ensures)
+returns-3 c = decided-blocking _ _ _ _ _ _ _ (rw (c .before .before .before .before .kind-of .ensures) at (c .before .before .before .if1 .left)) (sym (c .before .before .pattern-of .ensures) ∙ c .before .if2 .left) (c .blocked-by .ensures)
 
 pub shows-blocking-spec : {M : Type 1} → statement M
 shows-blocking-spec =
     tie.close
-    (tie.spec
-    mul-if1
-    add-if1
-    mul-if1-2
-    element-copy-out-if1
-    returns
-    pattern-of-requires
-    returns-2
-    blocked-by-requires
-    returns-3)
+    (tie.spec kind-of-requires returns pattern-of-requires returns-2 blocked-by-requires returns-3)

@@ -24,29 +24,11 @@ Inv-gaps table count end reach adds n e list₀ until gap₀ listed₀ list gap 
 abbrev μ-gaps : tie.MeasureT-gaps
 μ-gaps table count end reach adds n e list₀ until gap₀ listed₀ list gap listed = until - gap
 
-mul-until : tie.Need-mul-until Inv-loop μ-loop Inv-gaps μ-gaps
-mul-until c = omega arith
+return-of-requires : tie.Need-return-of-requires Inv-loop μ-loop Inv-gaps μ-gaps
+return-of-requires c κs = search needs
 
-add-until : tie.Need-add-until Inv-loop μ-loop Inv-gaps μ-gaps
-add-until c = omega arith
-
-mul-until-2 : tie.Need-mul-until-2 Inv-loop μ-loop Inv-gaps μ-gaps
-mul-until-2 c = omega arith
-
-element-copy-out-until : tie.Need-element-copy-out-until Inv-loop μ-loop Inv-gaps μ-gaps
-element-copy-out-until c = omega arith
-
-mul-gap : tie.Need-mul-gap Inv-loop μ-loop Inv-gaps μ-gaps
-mul-gap c = omega arith
-
-add-gap : tie.Need-add-gap Inv-loop μ-loop Inv-gaps μ-gaps
-add-gap c = omega arith
-
-mul-gap-2 : tie.Need-mul-gap-2 Inv-loop μ-loop Inv-gaps μ-gaps
-mul-gap-2 c = omega arith
-
-element-copy-out-gap : tie.Need-element-copy-out-gap Inv-loop μ-loop Inv-gaps μ-gaps
-element-copy-out-gap c = omega arith
+call-of-requires : tie.Need-call-of-requires Inv-loop μ-loop Inv-gaps μ-gaps
+call-of-requires c κs = search needs
 
 cast-list : tie.Need-cast-list Inv-loop μ-loop Inv-gaps μ-gaps
 cast-list c = omega arith
@@ -55,10 +37,10 @@ element-write-list : tie.Need-element-write-list Inv-loop μ-loop Inv-gaps μ-ga
 element-write-list c = search needs
 
 gaps-holds : tie.Need-gaps-holds Inv-loop μ-loop Inv-gaps μ-gaps
-gaps-holds c = linked-starts (c .before .before .args .e) (c .before .before .args .list .now) (c .before .before .pre .4)
+gaps-holds c = rw (c .call-of .ensures) (linked-starts (c .before .before .args .e) (c .before .before .args .list .now) (c .before .before .pre .4))
 
 loop-holds : tie.Need-loop-holds Inv-loop μ-loop Inv-gaps μ-gaps
-loop-holds c = trying-starts (c .before .gaps .inv) (c .gaps-test .taken) (c .before .before .before .before .pre .0) (c .before .before .before .before .pre .3)
+loop-holds c = trying-starts (c .before .gaps .inv) (rw (c .before .before .before .return-of .ensures) at (c .gaps-test .taken)) (c .before .before .before .before .pre .0) (c .before .before .before .before .pre .3)
 
 -- add i is an operation
 add-below : (c : tie.Else1 Inv-loop μ-loop Inv-gaps μ-gaps) → getD (c .before .before .before .before .before .before .args .adds .now) (c .before .loop .i) 0 < maxRecords
@@ -79,17 +61,8 @@ mul-if3 c = omega (arith, add-below (c .before))
 element-copy-out-if3 : tie.Need-element-copy-out-if3 Inv-loop μ-loop Inv-gaps μ-gaps
 element-copy-out-if3 c = omega (arith, add-below (c .before))
 
-mul-if4 : tie.Need-mul-if4 Inv-loop μ-loop Inv-gaps μ-gaps
-mul-if4 c = omega (arith, add-below (c .before .before .before))
-
-add-if4 : tie.Need-add-if4 Inv-loop μ-loop Inv-gaps μ-gaps
-add-if4 c = omega (arith, add-below (c .before .before .before))
-
-mul-if4-2 : tie.Need-mul-if4-2 Inv-loop μ-loop Inv-gaps μ-gaps
-mul-if4-2 c = omega (arith, add-below (c .before .before .before))
-
-element-copy-out-if4 : tie.Need-element-copy-out-if4 Inv-loop μ-loop Inv-gaps μ-gaps
-element-copy-out-if4 c = omega (arith, add-below (c .before .before .before))
+return-of-requires-2 : tie.Need-return-of-requires-2 Inv-loop μ-loop Inv-gaps μ-gaps
+return-of-requires-2 c κs = omega (arith, add-below (c .before .before .before))
 
 mul-far : tie.Need-mul-far Inv-loop μ-loop Inv-gaps μ-gaps
 mul-far c = omega (arith, add-below (c .before .before .before .before .before))
@@ -116,7 +89,7 @@ loop-again : tie.Need-loop-again Inv-loop μ-loop Inv-gaps μ-gaps
 loop-again c =
     let trying = c .before .before .before .before .loop .inv in
     ⊎-elim
-    (λ w. rw (w .4, w .5) (trying-more trying (c .before .before .before .if1 .left) (w .2 .taken) (w .0 .taken)))
+    (λ w. rw (w .4, w .5) (trying-more trying (c .before .before .before .if1 .left) (rw (w .1 .ensures) at (w .2 .taken)) (w .0 .taken)))
     (⊎-elim
     (λ w. rw (w .3, w .4) (trying-not trying (c .before .before .before .if1 .left) (λ returned. omega (arith, w .2 .left))))
     (λ w. rw (w .1, w .2) (trying-not trying (c .before .before .before .if1 .left) (λ returned. w .0 .left))))
@@ -132,7 +105,7 @@ gaps-again : tie.Need-gaps-again Inv-loop μ-loop Inv-gaps μ-gaps
 gaps-again c = trying-links (c .before .before .loop .inv) (c .before .before .before .before .before .before .before .pre .1) (c .before .before .before .before .before .before .before .pre .2) (c .before .if1 .taken) (c .if2 .left)
 
 returns : tie.Need-returns Inv-loop μ-loop Inv-gaps μ-gaps
-returns c = linked-ends (c .before .gaps .inv) (c .gaps-test .left)
+returns c = linked-ends (c .before .gaps .inv) (rw (c .before .before .before .return-of .ensures) at (c .gaps-test .left))
 
 returns-2 : tie.Need-returns-2 Inv-loop μ-loop Inv-gaps μ-gaps
 returns-2 c = trying-fails (c .before .before .loop .inv) (c .before .before .before .before .before .before .before .pre .1) (c .before .before .before .before .before .before .before .pre .2) (c .before .if1 .taken) (c .if2 .taken)
@@ -145,14 +118,8 @@ chain-spec =
     μ-loop
     Inv-gaps
     μ-gaps
-    mul-until
-    add-until
-    mul-until-2
-    element-copy-out-until
-    mul-gap
-    add-gap
-    mul-gap-2
-    element-copy-out-gap
+    return-of-requires
+    call-of-requires
     cast-list
     element-write-list
     gaps-holds
@@ -162,10 +129,7 @@ chain-spec =
     cast-a
     mul-if3
     element-copy-out-if3
-    mul-if4
-    add-if4
-    mul-if4-2
-    element-copy-out-if4
+    return-of-requires-2
     mul-far
     element-copy-out-far
     cast-list-2

@@ -23,23 +23,14 @@ list-adds-requires c κs = (c .before .pre .0, refl)
 loop-holds : tie.Need-loop-holds Inv-loop μ-loop
 loop-holds c = (c .before .before .pre .2, first-starts _)
 
-mul-if1 : tie.Need-mul-if1 Inv-loop μ-loop
-mul-if1 c = omega arith
-
-add-if1 : tie.Need-add-if1 Inv-loop μ-loop
-add-if1 c = omega arith
-
-mul-if1-2 : tie.Need-mul-if1-2 Inv-loop μ-loop
-mul-if1-2 c = omega arith
-
-element-copy-out-if1 : tie.Need-element-copy-out-if1 Inv-loop μ-loop
-element-copy-out-if1 c = omega arith
+kind-of-requires : tie.Need-kind-of-requires Inv-loop μ-loop
+kind-of-requires c κs = omega arith
 
 chain-requires : tie.Need-chain-requires Inv-loop μ-loop
-chain-requires c κs = (c .before .before .before .before .before .before .before .before .pre .0, c .before .before .before .before .before .before .before .before .pre .1, c .before .before .before .before .before .before .list-adds .ensures, record { known = c .before .before .before .before .loop-test .taken; kinds = c .before .before .if1 .taken }, c .before .before .before .before .before .loop .inv .0)
+chain-requires c κs = (c .before .before .before .before .before .before .before .before .pre .0, c .before .before .before .before .before .before .before .before .pre .1, c .before .before .before .before .before .before .list-adds .ensures, record { known = c .before .before .before .before .loop-test .taken; kinds = rw (c .before .before .before .kind-of .ensures) at (c .before .before .if1 .taken) }, c .before .before .before .before .before .loop .inv .0)
 
 returns : tie.Need-returns Inv-loop μ-loop
-returns c = first-chained (c .before .before .before .before .before .before .before .loop .inv .1) (record { known = c .before .before .before .before .before .before .loop-test .taken; kinds = c .before .before .before .before .if1 .taken }) (c .before .chain .ensures) (c .if2 .taken)
+returns c = first-chained (c .before .before .before .before .before .before .before .loop .inv .1) (record { known = c .before .before .before .before .before .before .loop-test .taken; kinds = rw (c .before .before .before .before .before .kind-of .ensures) at (c .before .before .before .before .if1 .taken) }) (c .before .chain .ensures) (c .if2 .taken)
 
 add-e : tie.Need-add-e Inv-loop μ-loop
 add-e c = omega arith
@@ -52,7 +43,7 @@ loop-again c =
     let inv = c .before .before .before .loop .inv in
     ⊎-elim
     (λ w. (rw (w .5) (w .3 .ensures .sized), first-more (inv .1) (c .before .before .loop-test .taken) (not-covered (w .3 .ensures) (w .4 .left))))
-    (λ w. (rw (w .1) (inv .0), first-more (inv .1) (c .before .before .loop-test .taken) (λ covered. w .0 .left (covered .0 .kinds))))
+    (λ w. (rw (w .1) (inv .0), first-more (inv .1) (c .before .before .loop-test .taken) (λ covered. omega (arith, w .0 .left, covered .0 .kinds))))
     (c .if1 .came)
 
 returns-2 : tie.Need-returns-2 Inv-loop μ-loop
@@ -66,10 +57,7 @@ false-empty-spec =
     μ-loop
     list-adds-requires
     loop-holds
-    mul-if1
-    add-if1
-    mul-if1-2
-    element-copy-out-if1
+    kind-of-requires
     chain-requires
     returns
     add-e

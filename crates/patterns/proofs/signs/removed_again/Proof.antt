@@ -20,17 +20,8 @@ add-s c = search needs
 loop-holds : tie.Need-loop-holds Inv-loop μ-loop
 loop-holds c = (omega arith, record { within = omega arith; none-lower = λ m l again. omega (arith, again .above) })
 
-mul-if1 : tie.Need-mul-if1 Inv-loop μ-loop
-mul-if1 c = search needs
-
-add-if1 : tie.Need-add-if1 Inv-loop μ-loop
-add-if1 c = search needs
-
-mul-if1-2 : tie.Need-mul-if1-2 Inv-loop μ-loop
-mul-if1-2 c = search needs
-
-element-copy-out-if1 : tie.Need-element-copy-out-if1 Inv-loop μ-loop
-element-copy-out-if1 c = search needs
+kind-of-requires : tie.Need-kind-of-requires Inv-loop μ-loop
+kind-of-requires c κs = search needs
 
 mul-if2 : tie.Need-mul-if2 Inv-loop μ-loop
 mul-if2 c = search needs
@@ -45,7 +36,7 @@ element-copy-out-if2-2 : tie.Need-element-copy-out-if2-2 Inv-loop μ-loop
 element-copy-out-if2-2 c = search needs
 
 returns : tie.Need-returns Inv-loop μ-loop
-returns c = first-found (c .before .before .before .before .before .before .loop .inv .1) (record { above = omega arith; removes = c .before .before .before .if1 .taken; same = c .if2 .taken })
+returns c = first-found (c .before .before .before .before .before .before .loop .inv .1) (record { above = omega arith; removes = rw (c .before .before .before .before .kind-of .ensures) at (c .before .before .before .if1 .taken); same = c .if2 .taken })
 
 add-s-2 : tie.Need-add-s-2 Inv-loop μ-loop
 add-s-2 c = search needs
@@ -54,7 +45,7 @@ loop-less : tie.Need-loop-less Inv-loop μ-loop
 loop-less c = search needs
 
 loop-again : tie.Need-loop-again Inv-loop μ-loop
-loop-again c = (omega arith, first-more (c .before .before .before .loop .inv .1) (c .before .before .loop-test .taken) (λ again. ⊎-elim (λ w. w .3 .left (again .same)) (λ w. w .left (again .removes)) (c .if1 .came)))
+loop-again c = (omega arith, first-more (c .before .before .before .loop .inv .1) (c .before .before .loop-test .taken) (λ again. ⊎-elim (λ w. w .3 .left (again .same)) (λ w. omega (arith, w .left)) (c .if1 .came)))
 
 returns-2 : tie.Need-returns-2 Inv-loop μ-loop
 returns-2 c = first-none (c .before .loop .inv .1) (c .loop-test .left)
@@ -67,10 +58,7 @@ removed-again-spec =
     μ-loop
     add-s
     loop-holds
-    mul-if1
-    add-if1
-    mul-if1-2
-    element-copy-out-if1
+    kind-of-requires
     mul-if2
     element-copy-out-if2
     mul-if2-2

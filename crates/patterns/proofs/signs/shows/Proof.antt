@@ -6,20 +6,11 @@ use native.Mathlib.Omega.{arith}
 use Rattle.matching.proofs.Matching.{partner-within}
 use Rattle.patterns.proofs.Showing.{shows-nothing, shows-unknown, shows-twice, shows-early, shows-no-other}
 
-mul-if1 : tie.Need-mul-if1
-mul-if1 c = search needs
-
-add-if1 : tie.Need-add-if1
-add-if1 c = search needs
-
-mul-if1-2 : tie.Need-mul-if1-2
-mul-if1-2 c = search needs
-
-element-copy-out-if1 : tie.Need-element-copy-out-if1
-element-copy-out-if1 c = search needs
+kind-of-requires : tie.Need-kind-of-requires
+kind-of-requires c κs = search needs
 
 returns : tie.Need-returns
-returns c = shows-nothing _ _ _ _ (c .if1 .taken)
+returns c = shows-nothing _ _ _ _ (rw (c .before .kind-of .ensures) at (c .if1 .taken))
 
 mul-above : tie.Need-mul-above
 mul-above c = search needs
@@ -31,7 +22,7 @@ cast-above : tie.Need-cast-above
 cast-above c = omega (arith, partner-within (c .before .before .before .pre .2) (c .before .before .before .pre .1))
 
 returns-2 : tie.Need-returns-2
-returns-2 c = let a = c .before .before .before .before .args in shows-unknown (a .table .now) (a .partner .now) (a .pattern) (a .r) (c .before .before .if1 .left) (c .if2 .taken)
+returns-2 c = let a = c .before .before .before .before .args in shows-unknown (a .table .now) (a .partner .now) (a .pattern) (a .r) (rw (c .before .before .before .kind-of .ensures) at (c .before .before .if1 .left)) (c .if2 .taken)
 
 sub-a : tie.Need-sub-a
 sub-a c = search needs
@@ -48,47 +39,26 @@ cast-result c = search needs
 add-result : tie.Need-add-result
 add-result c = search needs
 
-mul-result-2 : tie.Need-mul-result-2
-mul-result-2 c = search needs
+return-of-requires : tie.Need-return-of-requires
+return-of-requires c κs = search needs
 
-add-result-2 : tie.Need-add-result-2
-add-result-2 c = search needs
-
-mul-result-3 : tie.Need-mul-result-3
-mul-result-3 c = search needs
-
-element-copy-out-result-2 : tie.Need-element-copy-out-result-2
-element-copy-out-result-2 c = search needs
-
-mul-result-4 : tie.Need-mul-result-4
-mul-result-4 c = omega (arith, partner-within (c .before .before .before .before .before .before .pre .2) (c .before .before .before .before .before .before .pre .1))
-
-add-result-3 : tie.Need-add-result-3
-add-result-3 c = omega (arith, partner-within (c .before .before .before .before .before .before .pre .2) (c .before .before .before .before .before .before .pre .1))
-
-mul-result-5 : tie.Need-mul-result-5
-mul-result-5 c = omega (arith, partner-within (c .before .before .before .before .before .before .pre .2) (c .before .before .before .before .before .before .pre .1))
-
-element-copy-out-result-3 : tie.Need-element-copy-out-result-3
-element-copy-out-result-3 c = omega (arith, partner-within (c .before .before .before .before .before .before .pre .2) (c .before .before .before .before .before .before .pre .1))
+call-of-requires : tie.Need-call-of-requires
+call-of-requires c κs = omega (arith, partner-within (c .before .before .before .before .before .before .pre .2) (c .before .before .before .before .before .before .pre .1))
 
 returns-3 : tie.Need-returns-3
-returns-3 c = let a = c .before .before .before .before .before .before .args in shows-twice (a .table .now) (a .partner .now) (a .pattern) (a .r) (c .before .before .before .before .if1 .left) (c .before .before .if2 .left) (c .before .match .keys1)
+returns-3 c = let a = c .before .before .before .before .before .before .args in shows-twice (a .table .now) (a .partner .now) (a .pattern) (a .r) (rw (c .before .before .before .before .before .kind-of .ensures) at (c .before .before .before .before .if1 .left)) (c .before .before .if2 .left) (c .before .match .keys1)
 
 returns-4 : tie.Need-returns-4
-returns-4 c = let a = c .before .before .before .before .before .before .before .args in shows-early (a .table .now) (a .partner .now) (a .pattern) (a .r) (c .before .before .before .before .before .if1 .left) (c .before .before .before .if2 .left) (c .before .before .match .keys2)
+returns-4 c = let a = c .before .before .before .before .before .before .before .args in rw (c .before .return-of .ensures, c .call-of .ensures) (shows-early (a .table .now) (a .partner .now) (a .pattern) (a .r) (rw (c .before .before .before .before .before .before .kind-of .ensures) at (c .before .before .before .before .before .if1 .left)) (c .before .before .before .if2 .left) (c .before .before .match .keys2))
 
 returns-5 : tie.Need-returns-5
-returns-5 c = shows-no-other _ _ _ _ (c .before .before .before .if1 .left) (c .before .if2 .left) (c .match .rest .0 .1) (c .match .rest .1)
+returns-5 c = shows-no-other _ _ _ _ (rw (c .before .before .before .before .kind-of .ensures) at (c .before .before .before .if1 .left)) (c .before .if2 .left) (c .match .rest .0 .1) (c .match .rest .1)
 
 pub shows-spec : {M : Type 1} → statement M
 shows-spec =
     tie.close
     (tie.spec
-    mul-if1
-    add-if1
-    mul-if1-2
-    element-copy-out-if1
+    kind-of-requires
     returns
     mul-above
     element-copy-out-above
@@ -99,14 +69,8 @@ shows-spec =
     element-copy-out-result
     cast-result
     add-result
-    mul-result-2
-    add-result-2
-    mul-result-3
-    element-copy-out-result-2
-    mul-result-4
-    add-result-3
-    mul-result-5
-    element-copy-out-result-3
+    return-of-requires
+    call-of-requires
     returns-3
     returns-4
     returns-5)
