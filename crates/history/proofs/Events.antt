@@ -8,6 +8,13 @@ use Rattle.record.specs.declared.record.Event.the-variants.{CallAdd, CallRemove
 use Rattle.reader.specs.Log.{isCall}
 use Rattle.reader.specs.Readable.{asks, leaves}
 
+-- a call asks for nothing and leaves something, a return asks for something and leaves nothing
+call-or-return : (e : Event) → (1 ≤ asks e + isCall e) × (asks e + 2 * isCall e ≤ 2) × (isCall e ≤ leaves e) × (leaves e ≤ 2 * isCall e)
+call-or-return (CallAdd v) = omega arith
+call-or-return CallRemove = omega arith
+call-or-return ReturnAdd = omega arith
+call-or-return (ReturnRemove x) = omega arith
+
 -- what a call leaves pending is not nothing, and only a call leaves something
 pub leaves-call : (e : Event) → isCall e ≡ 1 → leaves e ≡ 0 → ⊥
 leaves-call (CallAdd v) c l = omega arith
@@ -27,6 +34,10 @@ call-leaves CallRemove l = refl
 call-leaves ReturnAdd l = absurd (l refl)
 call-leaves (ReturnRemove x) l = absurd (l refl)
 
+-- a return asks for a call
+pub return-asks : (e : Event) → isCall e ≡ 0 → asks e ≡ 0 → ⊥
+return-asks e c a = omega (arith, call-or-return e)
+
 -- only a return of a remove asks for a remove
 pub asks-remove : (e : Event) → asks e ≡ 2 → (x : Removed) × (e ≡ ReturnRemove x)
 asks-remove (CallAdd v) a = absurd (omega arith)
@@ -40,13 +51,6 @@ isCall-small (CallAdd v) = omega arith
 isCall-small CallRemove = omega arith
 isCall-small ReturnAdd = omega arith
 isCall-small (ReturnRemove x) = omega arith
-
--- a call asks for nothing and leaves something, a return asks for something and leaves nothing
-call-or-return : (e : Event) → (1 ≤ asks e + isCall e) × (asks e + 2 * isCall e ≤ 2) × (isCall e ≤ leaves e) × (leaves e ≤ 2 * isCall e)
-call-or-return (CallAdd v) = omega arith
-call-or-return CallRemove = omega arith
-call-or-return ReturnAdd = omega arith
-call-or-return (ReturnRemove x) = omega arith
 
 -- of two events of which one asks for what the other leaves, one is a call and one a return
 pub turns-change : (e f : Event) → asks f ≡ leaves e → isCall e + isCall f ≡ 1

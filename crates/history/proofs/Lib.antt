@@ -9,6 +9,7 @@ pub mod Laws
 pub mod Linking
 pub mod Noting
 pub mod Numbering
+pub mod Owning
 pub mod Positions
 pub mod Queues
 pub mod Reaching
@@ -18,3 +19,4 @@ pub mod Running
 pub mod Searching
 pub mod Sheets
 pub mod Tabulating
+pub mod Tracing

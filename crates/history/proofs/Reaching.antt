@@ -3,8 +3,7 @@ use Prim.Native.Nat.{ℕ, _+_, _≤_, _<_}
 use native.Mathlib.Omega.{arith}
 use mathlib.Core.Path.{_≡_, refl, sym, _∙_}
 use mathlib.Core.List.{List}
-use lib.ListN.{length, take, replicate}
-use lib.Seq.{length-take-le}
+use lib.ListN.{length, replicate}
 use Rattle.record.specs.Record.{decodeAt}
 use Rattle.record.specs.declared.record.Record.{Record}
 use Rattle.record.specs.declared.record.Decoded.{Decoded}
@@ -13,9 +12,10 @@ use Rattle.reader.specs.Log.{headerLength, maxRecords, readLog, checked}
 use Rattle.reader.specs.Readable.{recordOf, sizes, offsetOf, ReadableLog}
 use Rattle.reader.specs.declared.log.Checked.{Checked}
 use Rattle.reader.specs.declared.log.Checked.the-variants.{Readable, Refused}
-use Rattle.reader.proofs.Laws.{readable-log, checked-readable, checked-refused, few-operations}
+use Rattle.reader.proofs.Laws.{readable-log, checked-readable, checked-refused}
 use Rattle.history.specs.Table.{tableLength, Filled, Room, Noted, Tabulated, Whole}
 use Rattle.history.proofs.Filling.{filled-none, filled-all}
+use Rattle.history.proofs.Tracing.{traced-room}
 
 -- The loop of `fill`: it has come to record i, which stands at this offset, and the tables hold the records before it.
 pub record Reached (log : List ℕ) (end : ℕ) (old callers recent table : List ℕ) (at count i : ℕ) : Type 0 where
@@ -45,26 +45,19 @@ reached-found reached l e m =
 
 -- and room for what it says
 pub reached-room : {log : List ℕ} {end : ℕ} {old callers recent table : List ℕ} {at count i : ℕ} → Reached log end old callers recent table at count i → i < end → Room i count end callers recent table
-reached-room {end = end} {recent = recent} {count = count} {i = i} reached l =
-    let records = reached .whole .records in
-    let small : end ≤ maxRecords = omega (arith, readable (reached .whole) .partial .regular .few, reached .whole .counted) in
-    let few : count ≤ i = omega (arith, reached .filled .counted, few-operations (take i records), length-take-le i records (omega (arith, reached .whole .counted))) in
+reached-room {end = end} {i = i} reached l =
+    let few = readable (reached .whole) .partial .regular .few in
+    let small : end ≤ maxRecords = omega (arith, few, reached .whole .counted) in
     record {
       index-small = omega arith;
-      count-small = omega arith;
       end-small = small;
-      leads-down = record {
-        slots = λ slot. omega (arith, few, small, reached .filled .linked .tops slot .within);
-        links = reached .filled .link-small;
-      };
-      callers-sized = reached .filled .callers-sized;
-      recent-sized = reached .filled .recent-sized;
+      callers-room = traced-room (omega (arith, reached .whole .counted)) few (reached .filled .traced);
       table-sized = reached .filled .table-sized;
     }
 
 pub reached-next : {log : List ℕ} {end : ℕ} {old callers recent table callers' recent' table' : List ℕ} {at count i next count' : ℕ} {r : Record} {d : Decoded} → Reached log end old callers recent table at count i → i < end
     → d ≡ decodeAt log at → d ≡ Found r next → Noted r i count end callers recent table count' callers' recent' table' → Reached log end old callers' recent' table' next count' (i + 1)
-reached-next {log} {old = old} {i = i} {next = next} {r = r} reached l e f noted =
+reached-next {old = old} {i = i} {next = next} {r = r} reached l e f noted =
     let records = reached .whole .records in
     let found = reached-record reached l in
     let same : recordOf records i ≡ r = cc in
@@ -73,13 +66,13 @@ reached-next {log} {old = old} {i = i} {next = next} {r = r} reached l e f noted
       whole = reached .whole;
       within = omega arith;
       stands = behind;
-      filled = noted .kept log records old (readable (reached .whole)) (reached .whole .counted) l same (reached .filled);
+      filled = noted .kept records old (readable (reached .whole) .partial .regular) (reached .whole .counted) l same (reached .filled);
     }
 
 pub reached-end : {log : List ℕ} {end : ℕ} {old callers recent table : List ℕ} {at count i : ℕ} → Reached log end old callers recent table at count i → end ≤ i → Tabulated (readLog log) old table
 reached-end {log} {i = i} reached l =
     let last : i ≡ length (reached .whole .records) = omega (arith, reached .within, reached .whole .counted) in
-    rw (reached .whole .reads) (filled-all (readable (reached .whole)) (rw last at (reached .filled)))
+    rw (reached .whole .reads) (filled-all (rw last at (reached .filled)))
 
 -- what the answer of a check says of the log, and of the table that is then left alone
 pub whole-log : {log : List ℕ} {answer : Checked} {n m : ℕ} → answer ≡ checked (readLog log) → answer ≡ Readable n m → Whole log n

@@ -8,5 +8,6 @@ pub mod Sheet
 pub mod Each
 pub mod Runs
 pub mod Callers
+pub mod Owners
 pub mod Table
 pub mod Answers

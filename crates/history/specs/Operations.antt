@@ -1,6 +1,6 @@
 -- The operations that the records of a log tell of. Document 01, "The log": "Operations are numbered from 0 in the order of
 -- their call records."
-use Prim.Native.Nat.{ℕ, suc, _+_, _-_}
+use Prim.Native.Nat.{ℕ, zero, suc, _+_, _-_}
 use mathlib.Core.List.{List, [], _∷_}
 use lib.ListN.{length, drop}
 use lib.Dec.{ltb, eqb}
@@ -67,3 +67,25 @@ historyOf records = record {
   ret = λ o. returnPosition records (returnIndex records (callIndex records o));
   end = length records;
 }
+
+-- the operation that a client called last, by the records of the past, latest first: its call has as many calls before it as its number says
+unfoldable pub latestOf : List Record → ℕ → ℕ
+latestOf [] client = 0
+latestOf (r ∷ past) client =
+    if eqb (isCall (r .event)) 0 then latestOf past client else
+    if eqb (r .client) client then operations past else
+    latestOf past client
+
+-- the operation of a record: a call's own, and the one that a return ends, its client's latest
+abbrev pub operationOf : List Record → Record → ℕ
+operationOf past r = latestOf (r ∷ past) (r .client)
+
+-- the operation of the record with an index among those that follow the past
+unfoldable pub operationFrom : List Record → List Record → ℕ → ℕ
+operationFrom past [] i = 0
+operationFrom past (r ∷ records) zero = operationOf past r
+operationFrom past (r ∷ records) (suc i) = operationFrom (r ∷ past) records i
+
+-- the operation of the record with an index
+abbrev pub operationAt : List Record → ℕ → ℕ
+operationAt records i = operationFrom [] records i

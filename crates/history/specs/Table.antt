@@ -2,15 +2,15 @@
 use Prim.Native.Nat.{ℕ, _+_, _*_, _≤_, _<_}
 use mathlib.Core.Path.{_≡_}
 use mathlib.Core.List.{List}
-use lib.ListN.{length, getD, take}
+use lib.ListN.{length, getD}
 use Rattle.record.specs.declared.record.Event.{Event}
 use Rattle.record.specs.declared.record.Event.the-variants.{CallRemove}
 use Rattle.record.specs.declared.record.Record.{Record}
 use Rattle.reader.specs.Log.{maxRecords, Reading, readable, refused, readLog, operations}
-use Rattle.reader.specs.Readable.{recordOf, ReadableLog}
-use Rattle.history.specs.Callers.{clientAt, linkAt, Linked, LeadsDown}
+use Rattle.reader.specs.Readable.{recordOf, Regular}
 use Rattle.history.specs.History.{History}
 use Rattle.history.specs.Operations.{callIndex, returnIndex, kindBy, valueBy, historyOf}
+use Rattle.history.specs.Owners.{Traced, CallersRoom}
 
 abbrev pub fields : ℕ
 fields = 4
@@ -82,30 +82,23 @@ Told records table o return ret =
 -- The tables hold what the first n records say: of each operation called by then its client and its call, its kind, value and
 -- return if it has returned by then, and otherwise what its call alone says.
 pub record Filled (records : List Record) (old : List ℕ) (n count : ℕ) (callers recent table : List ℕ) : Type 0 where
-  pub counted : count ≡ operations (take n records)
-  pub callers-sized : length callers ≡ maxRecords
-  pub recent-sized : length recent ≡ maxRecords
+  pub traced : Traced records n count callers recent
   pub table-sized : length table ≡ tableLength
   pub untouched : Untouched count old table
-  pub linked : Linked callers recent count
-  pub link-small : (o : ℕ) → linkAt callers o ≤ o
-  pub clients-are : (o : ℕ) → o < count → clientAt callers o ≡ recordOf records (callIndex records o) .client
-  pub returned : (o : ℕ) → o < count → returnIndex records (callIndex records o) < n → Told records table o (recordOf records (returnIndex records (callIndex records o)) .event) (returnIndex records (callIndex records o))
+  pub returned : (o : ℕ) → o < count → returnIndex records (callIndex records o) < n
+      → Told records table o (recordOf records (returnIndex records (callIndex records o)) .event) (returnIndex records (callIndex records o))
   pub pending : (o : ℕ) → o < count → n ≤ returnIndex records (callIndex records o) → Told records table o CallRemove (length records)
 
 -- There is room for one record more.
 pub record Room (index count end : ℕ) (callers recent table : List ℕ) : Type 0 where
   pub index-small : index < maxRecords
-  pub count-small : count < maxRecords
   pub end-small : end ≤ maxRecords
-  pub leads-down : LeadsDown callers recent
-  pub callers-sized : length callers ≡ maxRecords
-  pub recent-sized : length recent ≡ maxRecords
+  pub callers-room : CallersRoom count callers recent
   pub table-sized : length table ≡ tableLength
 
 -- The tables hold one record more, r, which has this index.
 pub record Noted (r : Record) (index count end : ℕ) (callers recent table : List ℕ) (count' : ℕ) (callers' recent' table' : List ℕ) : Type 0 where
-  pub kept : (log : List ℕ) (records : List Record) (old : List ℕ) → ReadableLog log records → length records ≡ end → index < end → recordOf records index ≡ r
+  pub kept : (records : List Record) (old : List ℕ) → Regular records → length records ≡ end → index < end → recordOf records index ≡ r
       → Filled records old index count callers recent table → Filled records old (index + 1) count' callers' recent' table'
 
 -- A log that is readable, of so many records.

@@ -23,7 +23,7 @@ fn slot_of(client: u32) -> usize
 }
 
 // Notes the client of a new operation.
-pub fn begin(callers: &mut Callers, recent: &mut Recent, o: usize, client: u32)
+pub(crate) fn begin(callers: &mut Callers, recent: &mut Recent, o: usize, client: u32)
     requires { ⌜ (o < maxRecords) × (client < clientCount) × (getD (now recent) (slotOf client) 0 ≤ maxRecords) ⌝ }
     ensures { λ _. ⌜ Begun (now (callers .entry)) (now (recent .entry)) o client (now (callers .exit)) (now (recent .exit)) ⌝ }
 {
@@ -33,7 +33,7 @@ pub fn begin(callers: &mut Callers, recent: &mut Recent, o: usize, client: u32)
 }
 
 // The latest operation of a client that has one. The search goes from link to link, along the operations that share its slot.
-pub fn latest_of(callers: &Callers, recent: &Recent, client: u32) -> usize
+pub(crate) fn latest_of(callers: &Callers, recent: &Recent, client: u32) -> usize
     requires { ⌜ LeadsDown (now callers) (now recent) ⌝ }
     ensures { λ o. ⌜ Found (now (callers .entry)) (now (recent .entry)) client o ⌝ }
 {

@@ -9,8 +9,6 @@ ghost use Rattle.history.specs.Operations.{removeKind};
 ghost use Rattle.history.specs.Table.{tableLength, Tabulated, Entered, Room, Noted, Whole};
 use crate::callers::Callers;
 use crate::callers::Recent;
-use crate::callers::begin;
-use crate::callers::latest_of;
 use crate::operations::ADD;
 use crate::operations::CALL;
 use crate::operations::EMPTY_REMOVE;
@@ -23,6 +21,7 @@ use crate::operations::RETURN;
 use crate::operations::VALUE;
 use crate::operations::call_of;
 use crate::operations::value_of;
+use crate::owners::owner_of;
 use reader::format::HEADER;
 use reader::format::MAX_RECORDS;
 use record::cursor::read_at;
@@ -64,8 +63,8 @@ fn enter(table: &mut Operations, o: usize, kind: u32, value: u32, call: u32, ret
     table[at + RETURN] = returned;
 }
 
-// Notes the record with an index: a call begins an operation, which is entered as returning at the end until its return is read, and a
-// return ends its client's latest operation. Answers how many operations there are then.
+// Notes the record with an index: a call's operation is entered as returning at the end until its return is read. Answers how many
+// operations there are then.
 fn note(
     r: Record,
     index: usize,
@@ -78,36 +77,30 @@ fn note(
     requires { ⌜ Room index count end (now callers) (now recent) (now table) ⌝ }
     ensures { λ q. ⌜ Noted r index count end (now (callers .entry)) (now (recent .entry)) (now (table .entry)) q (now (callers .exit)) (now (recent .exit)) (now (table .exit)) ⌝ }
 {
-    let client = r.client as u32;
     let event = r.event;
+    let owner = owner_of(r, count, callers, recent);
+    let o = owner.operation;
     // A record's position is its index.
     let at = index as u32;
     match event {
         Event::CallAdd(value) => {
-            begin(callers, recent, count, client);
-            enter(table, count, ADD, value, at, end as u32);
-            count + 1
+            enter(table, o, ADD, value, at, end as u32);
         }
         Event::CallRemove => {
-            begin(callers, recent, count, client);
-            enter(table, count, NO_KIND, 0, at, end as u32);
-            count + 1
+            enter(table, o, NO_KIND, 0, at, end as u32);
         }
         Event::ReturnAdd => {
-            let o = latest_of(callers, recent, client);
             let value = value_of(table, o);
             let call = call_of(table, o);
             enter(table, o, ADD, value, call, at);
-            count
         }
         Event::ReturnRemove(removed) => {
-            let o = latest_of(callers, recent, client);
             let outcome = outcome_of(removed);
             let call = call_of(table, o);
             enter(table, o, outcome.kind, outcome.value, call, at);
-            count
         }
     }
+    owner.count
 }
 
 // Fills the table from the records of a readable log.

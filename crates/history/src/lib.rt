@@ -2,3 +2,4 @@
 pub mod callers;
 mod fill;
 pub mod operations;
+pub mod owners;

@@ -10,15 +10,15 @@ use Rattle.reader.specs.Log.{maxRecords, refused, readLog, checked}
 use Rattle.reader.specs.declared.log.Checked.{Checked}
 use Rattle.reader.specs.declared.log.Checked.the-variants as check
 use Rattle.reader.proofs.Laws.{checked-refused, few-operations}
-use Rattle.history.specs.Operations.{historyOf}
+use Rattle.history.specs.Operations.{historyOf, operationAt}
 use Rattle.history.specs.Table.{Tabulated}
+use Rattle.history.proofs.Owning.{operation-known}
 use Rattle.history.proofs.Tabulating.{log-tabled}
 use Rattle.projection.specs.Projection.{keeps, projection}
 use Rattle.projection.specs.Outcome.{narrowAnswer, narrowLeaves}
-use Rattle.projection.specs.Marks.{isSet, keepsIn, TableOf, KeptAre, operationAt}
+use Rattle.projection.specs.Marks.{isSet, keepsIn, TableOf, KeptAre}
 use Rattle.projection.specs.Copies.{keptRecords, Writes}
 use Rattle.projection.proofs.Along.{whole-readable, whole-one}
-use Rattle.projection.proofs.Operations.{operation-known}
 use Rattle.projection.proofs.Selecting.{keep-same}
 use Rattle.projection.proofs.Projecting.{writes-same}
 
@@ -51,7 +51,7 @@ module _ {log : List ℕ} {n m : ℕ} {table : List ℕ} (of : TableOf log n m t
         where
           alike : (i : ℕ) → i < length (of .whole .records) → isSet kept (operationAt (of .whole .records) i) ≡ keeps (historyOf (of .whole .records)) empties values (operationAt (of .whole .records) i)
           alike i l =
-              let known : operationAt (of .whole .records) i < m = omega (arith, of .counted, operation-known (whole-readable (of .whole)) i l) in
+              let known : operationAt (of .whole .records) i < m = omega (arith, of .counted, operation-known (whole-readable (of .whole) .partial .regular) i l) in
               kept-are .marked (operationAt (of .whole .records) i) known ∙ keeps-agree empties values (operationAt (of .whole .records) i) known
 
   pub narrow-readable : (values : List ℕ) {out out' : List ℕ} {r : Output} → Writes log (λ records. projection records [] values) out r out'

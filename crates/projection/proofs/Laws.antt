@@ -23,23 +23,21 @@ use Rattle.reader.proofs.Laws.{sizes-most, readable-log, readable-orderly, orde
 use Rattle.history.specs.Object.{Queue}
 use Rattle.history.specs.History.{History, add, emptyRemove, noKind}
 use Rattle.history.specs.Each.{Each}
-use Rattle.history.specs.Operations.{callIndex, historyOf}
+use Rattle.history.specs.Operations.{callIndex, historyOf, operationOf, operationAt}
 use Rattle.history.proofs.Laws.{history-lawful, history-returned}
+use Rattle.history.proofs.Owning.{operation-own, operation-known}
 use Rattle.history.proofs.Queues.{returned-complete}
 use Rattle.history.specs.Linearization.{Linearization}
 use Rattle.violations.specs.Violations.{NoViolation}
 use Rattle.violations.specs.Verdict.{FirstViolation, SomeViolation, Verdict}
 use Rattle.violations.specs.Parts.{HasValue, Part, Kept}
 use Rattle.violations.proofs.Laws.{first-violation, first-violation-one, occurs-kinded, excluded, part-verdict}
-use Rattle.projection.specs.Projection.{operationOf, keepRecords, valuesOf, keeps, projection, narrowed, excerpted}
+use Rattle.projection.specs.Projection.{keepRecords, valuesOf, keeps, projection, narrowed, excerpted}
 use Rattle.projection.specs.Outcome.{noPattern, excerptAnswerOf, excerptLeavesOf, excerptAnswer, excerptLeaves}
-use Rattle.projection.specs.Marks as Marks
 use Rattle.projection.proofs.Sizes.{log-length}
-use Rattle.projection.proofs.Selecting.{keep-same}
-use Rattle.projection.proofs.Operations.{operation-known}
+use Rattle.projection.proofs.Selecting.{keep-picks, kept-together, keep-same}
 use Rattle.projection.proofs.Picking.{Picked}
 use Rattle.projection.proofs.Turns.{Together, picked-orderly}
-use Rattle.projection.proofs.Owners.{operationAt, keep-picks, operation-own, kept-together}
 use Rattle.projection.proofs.Choosing.{keeps-all-of-value, keeps-listed, each-in}
 -- What has no kind is never kept.
 pub use Rattle.projection.proofs.Choosing.{keeps-kinded}
@@ -48,7 +46,7 @@ use Rattle.projection.proofs.Parts.{OnValues, SameRecords, picked-part,
 module _ (records : List Record) (empties values : List ℕ) where
   -- whether the record with an index is kept
   abbrev keepsRecord : ℕ → Bool
-  keepsRecord i = keeps (historyOf records) empties values (operationAt [] records i)
+  keepsRecord i = keeps (historyOf records) empties values (operationAt records i)
 
   -- the kept records are picked by this
   picks : Picked keepsRecord records (projection records empties values)
@@ -133,7 +131,7 @@ pub narrowed-alike : (log : List ℕ) (records : List Record) → readLog log �
     → ((o : ℕ) → HasValue (historyOf records) o → isIn (historyOf records .value o) values ≡ isIn (historyOf records .value o) others) → narrowed records values ≡ narrowed records others
 narrowed-alike log records reads values others same =
     keep-same (keeps (historyOf records) [] values) (keeps (historyOf records) [] others) records
-    (λ i l. kept-alike (Marks.operationAt records i) (operation-known read i l))
+    (λ i l. kept-alike (operationAt records i) (operation-known (read .partial .regular) i l))
   where
     h : History
     h = historyOf records

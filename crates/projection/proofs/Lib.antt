@@ -8,15 +8,12 @@ pub mod Laws
 pub mod Marking
 pub mod Measuring
 pub mod Noting
-pub mod Operations
 pub mod Originals
-pub mod Owners
 pub mod Parts
 pub mod Picking
 pub mod Projecting
 pub mod Selecting
 pub mod Sizes
 pub mod Times
-pub mod Tracing
 pub mod Turns
 pub mod Writing

@@ -11,12 +11,14 @@ use Rattle.record.specs.declared.record.Decoded.{Decoded}
 use Rattle.record.specs.declared.record.Decoded.the-variants.{Found, Malformed}
 use Rattle.reader.specs.Log.{headerLength, maxRecords}
 use Rattle.reader.specs.Readable.{recordOf}
+use Rattle.history.specs.Operations.{operationAt}
+use Rattle.history.specs.Owners.{Traced, CallersRoom, Owned}
 use Rattle.history.specs.Table.{Whole}
+use Rattle.history.specs.declared.owners.Owner.{Owner}
 use Rattle.history.proofs.Basics.{up-to}
-use Rattle.projection.specs.Marks.{operationAt, Traced, CallersRoom, Owned, MarksAre}
-use Rattle.projection.specs.declared.mark.Owner.{Owner}
+use Rattle.history.proofs.Tracing.{traced-none, traced-room}
+use Rattle.projection.specs.Marks.{MarksAre}
 use Rattle.projection.proofs.Along.{whole-one, Along, along-start, along-found, along-here, along-next}
-use Rattle.projection.proofs.Tracing.{traced-none, traced-room}
 
 -- The loop of `mark` has come to record i.
 pub record Marking (log : List ℕ) (end : ℕ) (kept callers recent marks : List ℕ) (at count i : ℕ) : Type 0 where
@@ -59,7 +61,7 @@ module _ {log kept callers recent marks : List ℕ} {end at count i : ℕ} (mark
     marking-found = along-found (marking .along) below
 
     pub marking-room : CallersRoom count callers recent
-    marking-room = traced-room marking-small (marking .traced)
+    marking-room = traced-room below (marking .along .readable .partial .regular .few) (marking .traced)
 
     pub marking-next : {r : Record} {next : ℕ} {d : Decoded} → d ≡ decodeAt log at → d ≡ Found r next
         → {owner : Owner} {callers' recent' : List ℕ} → Owned r count callers recent owner callers' recent'
@@ -67,11 +69,11 @@ module _ {log kept callers recent marks : List ℕ} {end at count i : ℕ} (mark
     marking-next {r} e f {owner} owned = record {
       whole = marking .whole;
       along = along-next (marking .along) below e f;
-      traced = owned .traced log (marking .whole .records) i (marking .along .readable) below here (marking .traced);
+      traced = owned .traced (marking .whole .records) i (marking .along .readable .partial .regular) below here (marking .traced);
       sized = length-set marks i _ ∙ marking .sized;
       marked = up-to
           (λ j m. getD-set-other marks i j _ 0 (λ z. omega arith) ∙ marking .marked j m)
-          (getD-set-same marks i _ 0 (omega (arith, marking .sized, marking-small)) ∙ ap (λ o. getD kept o 0) (owned .is log (marking .whole .records) i (marking .along .readable) below here (marking .traced)));
+          (getD-set-same marks i _ 0 (omega (arith, marking .sized, marking-small)) ∙ ap (λ o. getD kept o 0) (owned .is (marking .whole .records) i (marking .along .readable .partial .regular) below here (marking .traced)));
     }
       where
         here : recordOf (marking .whole .records) i ≡ r

@@ -7,22 +7,9 @@ use mathlib.Core.List.{List, [], _∷_}
 use lib.Dec.{eqb}
 use Rattle.record.specs.Choice.{if_then_else_}
 use Rattle.record.specs.declared.record.Record.{Record}
-use Rattle.reader.specs.Log.{isCall, operations}
 use Rattle.table.specs.Table.{isIn}
 use Rattle.history.specs.History.{History, emptyRemove, noKind}
-use Rattle.history.specs.Operations.{historyOf}
-
--- the operation that a client called last, by the records of the past, latest first: its call has as many calls before it as its number says
-unfoldable pub latestOf : List Record → ℕ → ℕ
-latestOf [] client = 0
-latestOf (r ∷ past) client =
-    if eqb (isCall (r .event)) 0 then latestOf past client else
-    if eqb (r .client) client then operations past else
-    latestOf past client
-
--- the operation of a record: a call's own, and the one that a return ends, its client's latest
-abbrev pub operationOf : List Record → Record → ℕ
-operationOf past r = latestOf (r ∷ past) (r .client)
+use Rattle.history.specs.Operations.{historyOf, operationOf}
 
 -- the records of the operations that are kept, in their places, behind those of the past
 unfoldable pub keepRecords : (ℕ → Bool) → List Record → List Record → List Record

@@ -99,12 +99,12 @@ pub follows : (records : List Record) (i : ℕ) → ((j : ℕ) × Next records i
 follows = follows-law
 
 -- a return has its call before it: the record before it of its client, which leaves what the return asks for by `next`
-pub called : {log : List ℕ} {records : List Record} → PartialLog log records → (j : ℕ) → j < length records → (asks (recordOf records j .event) ≡ 0 → ⊥) → (i : ℕ) × Next records i j
-called {records = records} l j h n = go (precedes-law records j h)
+pub called : {records : List Record} → Regular records → (j : ℕ) → j < length records → (asks (recordOf records j .event) ≡ 0 → ⊥) → (i : ℕ) × Next records i j
+called {records} regular j h n = go (precedes-law records j h)
   where
     go : ((i : ℕ) × Next records i j) ⊎ ((k : ℕ) → k < j → recordOf records k .client ≡ recordOf records j .client → ⊥) → (i : ℕ) × Next records i j
     go (inl before) = before
-    go (inr alone) = absurd (n (l .regular .first j h alone))
+    go (inr alone) = absurd (n (regular .first j h alone))
 
 -- the other direction: a log of records that can be written is read as those records
 pub written-log : (records : List Record) → length records ≤ maxRecords → Writable [] records → readPartial (encodeLog records) ≡ readable records

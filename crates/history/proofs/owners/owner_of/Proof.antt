@@ -1,10 +1,10 @@
 -- `owner_of` meets its contract: the laws of `Tracing.antt` for a call and for a return.
 use borrow.Author.Needs.{needs}
-use Rattle.projection.proofs.mark.owner_of.Statement.{statement}
-use Rattle.projection.proofs.mark.owner_of.Tie as tie
+use Rattle.history.proofs.owners.owner_of.Statement.{statement}
+use Rattle.history.proofs.owners.owner_of.Tie as tie
 use native.Mathlib.Omega.{arith}
 use mathlib.Core.Path.{sym, _∙_}
-use Rattle.projection.proofs.Tracing.{owned-call, owned-return}
+use Rattle.history.proofs.Tracing.{owned-call, owned-return}
 
 cast-client : tie.Need-cast-client
 cast-client c = search needs

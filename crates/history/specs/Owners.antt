@@ -1,0 +1,37 @@
+-- What the code keeps while it goes from record to record and finds the operation of each. What that operation is can be understood without
+-- this file.
+use Prim.Native.Nat.{ℕ, _+_, _≤_, _<_}
+use mathlib.Core.Path.{_≡_}
+use mathlib.Core.List.{List}
+use lib.ListN.{length, take}
+use Rattle.record.specs.declared.record.Record.{Record}
+use Rattle.reader.specs.Log.{maxRecords, operations}
+use Rattle.reader.specs.Readable.{recordOf, Regular}
+use Rattle.history.specs.Callers.{clientAt, linkAt, Linked, LeadsDown}
+use Rattle.history.specs.Operations.{callIndex, operationAt}
+use Rattle.history.specs.declared.owners.Owner.{Owner}
+
+-- The callers of the operations that the first n records call are noted.
+pub record Traced (records : List Record) (n count : ℕ) (callers recent : List ℕ) : Type 0 where
+  -- there are so many
+  pub counted : count ≡ operations (take n records)
+  -- the tables have their length, and lead from each slot to its operations
+  pub callers-sized : length callers ≡ maxRecords
+  pub recent-sized : length recent ≡ maxRecords
+  pub linked : Linked callers recent count
+  pub link-small : (o : ℕ) → linkAt callers o ≤ o
+  -- the client of each operation is that of its call
+  pub clients-are : (o : ℕ) → o < count → clientAt callers o ≡ recordOf records (callIndex records o) .client
+
+-- There is room for one operation more.
+pub record CallersRoom (count : ℕ) (callers recent : List ℕ) : Type 0 where
+  pub count-small : count < maxRecords
+  pub leads-down : LeadsDown callers recent
+
+-- The operation of the record r is found, and its caller is noted if the record calls it.
+pub record Owned (r : Record) (count : ℕ) (callers recent : List ℕ) (owner : Owner) (callers' recent' : List ℕ) : Type 0 where
+  pub small : owner .operation < maxRecords
+  pub is : (records : List Record) (n : ℕ) → Regular records → n < length records → recordOf records n ≡ r → Traced records n count callers recent
+      → owner .operation ≡ operationAt records n
+  pub traced : (records : List Record) (n : ℕ) → Regular records → n < length records → recordOf records n ≡ r → Traced records n count callers recent
+      → Traced records (n + 1) (owner .count) callers' recent'
