@@ -2,12 +2,13 @@
 use Prim.Native.Nat.{ℕ, _+_, _≤_, _<_}
 use native.Mathlib.Omega.{arith}
 use native.Mathlib.Numerals.{add-one}
-use native.Mathlib.Nat.{add-assoc}
+use native.Mathlib.Nat.{add-assoc, zero-add}
 use mathlib.Core.Path.{_≡_, refl, _∙_}
 use mathlib.Core.List.{List, [], _++_, append-assoc}
 use lib.ListN.{length, getD, set, take, drop, length-set, length-append, length-drop}
 use lib.Seq.{paste, paste-zero, paste-suc, take-length, take-at, drop-at, drop-drop, length-take-le}
-use Rattle.buffer.specs.Buffer.{put}
+use borrow.Author.Tests.{le-ltb}
+use Rattle.buffer.specs.Buffer.{written, put}
 
 -- The loop of `copy` has come to byte i.
 pub record Copying (bytes : List ℕ) (at : ℕ) (old out : List ℕ) (i : ℕ) : Type 0 where
@@ -56,3 +57,7 @@ put-behind at front bytes out h =
       add-assoc at (length front) (length bytes),
     )
     refl
+
+-- an answer at the front of a buffer that has room for it
+pub put-written : (answer out : List ℕ) → length answer ≤ length out → put 0 answer out ≡ written answer out
+put-written answer out room = rw (zero-add (length answer), le-ltb (length out) (length answer) room) refl

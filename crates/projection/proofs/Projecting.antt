@@ -1,11 +1,10 @@
 -- From what is marked and written to the answer.
 use Prim.Native.Nat.{ℕ, _+_, _≤_, _<_}
 use native.Mathlib.Omega.{arith}
-use native.Mathlib.Nat.{zero-add}
 use mathlib.Core.Path.{_≡_, refl, sym, ap, _∙_}
 use mathlib.Core.Bool.{true, false}
 use mathlib.Core.List.{List, _∷_, _++_}
-use lib.ListN.{length, drop}
+use lib.ListN.{length}
 use borrow.Author.Tests.{lt-ltb, le-ltb}
 use Rattle.record.specs.Number.{bytesOf}
 use Rattle.record.specs.declared.record.Record.{Record}
@@ -13,7 +12,7 @@ use Rattle.buffer.specs.Buffer.{bufferTooShort, lacksRoom, written, put}
 use Rattle.buffer.specs.Output.{writing}
 use Rattle.buffer.specs.declared.output.Output.{Output}
 use Rattle.buffer.specs.declared.output.Output.the-variants.{Written, Refused}
-use Rattle.buffer.proofs.Copying.{put-length, put-behind}
+use Rattle.buffer.proofs.Copying.{put-length, put-behind, put-written}
 use Rattle.reader.specs.Log.{logVersion, headerLength, readable, readLog, encodeAll, encodeLog}
 use Rattle.projection.specs.Copies.{marked, Measured, RoomFor, Copied, Writes}
 use Rattle.projection.specs.declared.measure.Extent.{Extent}
@@ -22,10 +21,6 @@ use Rattle.projection.proofs.Sizes.{log-length}
 -- the header of a log of so many records
 abbrev header : ℕ → List ℕ
 header count = logVersion ∷ bytesOf 2 count
-
--- bytes at the front of a buffer
-put-front : (bytes out : List ℕ) → put 0 bytes out ≡ bytes ++ drop (length bytes) out
-put-front bytes out = rw (zero-add (length bytes)) refl
 
 module _ {log marks : List ℕ} {extent : Extent} (measured : Measured log marks extent) where
   -- the log that is to be written, and its length
@@ -62,16 +57,16 @@ module _ {log marks : List ℕ} {extent : Extent} (measured : Measured log marks
     unfolding bytesOf
     writes-all {out'} copied = record {
       answers = λ records reads. rw (some-room records reads out l) (ap Written (sym (answer-long records reads)));
-      leaves = λ records reads. rw (some-room records reads out l) (copied .copied records reads ∙ joined records reads);
+      leaves = λ records reads. copied .copied records reads ∙ joined records reads;
     }
       where
         joined : (records : List Record) → readLog log ≡ readable records
-            → put headerLength (encodeAll (marked marks records)) headed ≡ encodeLog (marked marks records) ++ drop (length (encodeLog (marked marks records))) out
+            → put headerLength (encodeAll (marked marks records)) headed ≡ written (encodeLog (marked marks records)) out
         joined records reads =
             ap (put headerLength (encodeAll (marked marks records))) h
             ∙ put-behind 0 (header (extent .records)) (encodeAll (marked marks records)) out (omega arith)
-            ∙ put-front (header (extent .records) ++ encodeAll (marked marks records)) out
-            ∙ ap (λ bytes. bytes ++ drop (length bytes) out) (sym (answer-is records reads))
+            ∙ ap (λ bytes. put 0 bytes out) (sym (answer-is records reads))
+            ∙ put-written (encodeLog (marked marks records)) out (omega (arith, answer-long records reads))
 
 -- what is picked alike is written alike
 pub writes-same : {log out out' : List ℕ} {pick other : List Record → List Record} {answer : Output} → Writes log other out answer out'

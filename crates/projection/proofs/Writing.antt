@@ -1,18 +1,18 @@
 -- The loop that copies the marked records.
-use Prim.Native.Nat.{ℕ, _+_, _-_, _≤_, _<_, _/_, _%_}
+use Prim.Native.Nat.{ℕ, _+_, _-_, _≤_, _<_}
 use native.Mathlib.Omega.{arith}
 use mathlib.Core.Path.{_≡_, refl, sym, ap, _∙_}
-use mathlib.Core.List.{List, _++_, [], _∷_}
-use lib.ListN.{length, getD, take, drop, length-drop, set}
-use lib.Seq.{length-take-le, sets-eq}
+use mathlib.Core.List.{List, _++_}
+use lib.ListN.{length, getD, take, drop, length-drop}
+use lib.Seq.{length-take-le}
 use Rattle.record.specs.Choice.{if_then_else_}
 use Rattle.record.specs.Cursor.{behind}
 use Rattle.record.specs.Record.{decodeAt, sizeOf}
-use Rattle.record.specs.Number.{Bytes, bytesOf}
+use Rattle.record.specs.Number.{Bytes}
 use Rattle.record.specs.declared.record.Record.{Record}
 use Rattle.buffer.specs.Buffer.{put}
 use Rattle.buffer.proofs.Copying.{put-nothing, put-length, put-behind}
-use Rattle.reader.specs.Log.{headerLength, maxRecords, encodeAll, logVersion}
+use Rattle.reader.specs.Log.{headerLength, maxRecords, encodeAll}
 use Rattle.reader.specs.Readable.{recordOf, sizes}
 use Rattle.history.specs.Table.{Whole}
 use Rattle.projection.specs.Marks.{isSet}
@@ -20,12 +20,6 @@ use Rattle.projection.specs.Copies.{chosen, marked, ifSet, RoomFor, Copi
 use Rattle.projection.proofs.Along.{whole-one, Along, along-start, along-behind, along-size, along-within}
 use Rattle.projection.proofs.Chosen.{chosen-size, chosen-bytes, chosen-rises}
 use Rattle.projection.proofs.Sizes.{sizes-are, record-bytes}
-
--- the header, byte by byte
-pub header-put : (count : ℕ) (out : List ℕ) → count ≤ maxRecords → headerLength ≤ length out
-    → set (set (set out 0 logVersion) 1 (count / 256)) 2 (count % 256) ≡ put 0 (logVersion ∷ bytesOf 2 count) out
-unfolding bytesOf
-header-put count out few h = let small : count / 256 % 256 ≡ count / 256 = omega arith in rw small (sets-eq (logVersion ∷ count / 256 ∷ count % 256 ∷ []) out 0 h)
 
 -- The loop of `write_records` has come to record i.
 pub record Writing (log : List ℕ) (end : ℕ) (marks old out : List ℕ) (from at i : ℕ) : Type 0 where

@@ -1,12 +1,5 @@
 // The marked records of a log written out as a log. What is written is said in specs/Outcome.antt, how the code does it in
 // specs/Copies.antt.
-ghost use mathlib.Core.Path.{_≡_};
-ghost use mathlib.Core.List.{_∷_};
-ghost use Prim.Native.Nat.{_+_, _≤_};
-ghost use lib.ListN.{length};
-ghost use Rattle.record.specs.Number.{bytesOf};
-ghost use Rattle.buffer.specs.Buffer.{put};
-ghost use Rattle.reader.specs.Log.{logVersion, headerLength, maxRecords};
 ghost use Rattle.history.specs.Table.{Whole};
 ghost use Rattle.projection.specs.Copies.{marked, RoomFor, Copied, Writes, keptRecords};
 use crate::keep::Marks;
@@ -19,17 +12,7 @@ use buffer::buffer::copy;
 use buffer::output::Output;
 use reader::format::HEADER;
 use reader::format::MAX_RECORDS;
-use reader::format::VERSION;
-
-// Writes the header of a log of so many records.
-pub fn write_header(count: usize, out: &mut [u8])
-    requires { ⌜ (count ≤ maxRecords) × (headerLength ≤ length (now out)) ⌝ }
-    ensures { λ _. ⌜ now (out .exit) ≡ put 0 (logVersion ∷ bytesOf 2 count) (now (out .entry)) ⌝ }
-{
-    out[0] = VERSION;
-    out[1] = (count / 256) as u8;
-    out[2] = (count % 256) as u8;
-}
+use reader::header::write_header;
 
 // Copies the marked records of a readable log, one behind the other, behind the header.
 fn write_records(log: &[u8], records: usize, marks: &Marks, out: &mut [u8])

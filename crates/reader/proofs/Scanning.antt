@@ -23,8 +23,8 @@ use Rattle.reader.specs.declared.scan.Pass.{Pass}
 use Rattle.reader.specs.declared.scan.Pass.the-variants.{Through, Stopped}
 use Rattle.reader.specs.declared.scan.Survey.{Survey}
 use Rattle.reader.specs.declared.scan.Survey.the-variants.{Whole, Broken}
-use Rattle.reader.specs.declared.log.Header.{Header}
-use Rattle.reader.specs.declared.log.Header.the-variants.{Count, Wrong}
+use Rattle.reader.specs.declared.header.Header.{Header}
+use Rattle.reader.specs.declared.header.Header.the-variants.{Count, Wrong}
 use Rattle.reader.specs.declared.log.Checked.{Checked}
 use Rattle.reader.specs.declared.log.Checked.the-variants.{Readable, Refused}
 use Rattle.reader.proofs.Keeping.{fault-found, has-room, keeps-none}

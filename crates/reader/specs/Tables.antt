@@ -18,8 +18,8 @@ use Rattle.reader.specs.declared.scan.Step.{Step}
 use Rattle.reader.specs.declared.scan.Step.the-variants.{Next, Stop}
 use Rattle.reader.specs.declared.scan.Pass.{Pass}
 use Rattle.reader.specs.declared.scan.Pass.the-variants.{Through, Stopped}
-use Rattle.reader.specs.declared.log.Header.{Header}
-use Rattle.reader.specs.declared.log.Header.the-variants.{Count, Wrong}
+use Rattle.reader.specs.declared.header.Header.{Header}
+use Rattle.reader.specs.declared.header.Header.the-variants.{Count, Wrong}
 use Rattle.reader.specs.declared.scan.Survey.{Survey}
 use Rattle.reader.specs.declared.scan.Survey.the-variants.{Whole, Broken}
 

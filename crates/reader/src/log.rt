@@ -1,19 +1,14 @@
 // A whole log: readable, or refused under a number of document 01. What is right is said in specs/Log.antt.
 ghost use mathlib.Core.Path.{_≡_};
 ghost use Rattle.reader.specs.Log.{readPartial, readLog, checked};
-ghost use Rattle.reader.specs.Tables.{headerOf, surveyed};
+ghost use Rattle.reader.specs.Tables.{surveyed};
 ghost use Rattle.reader.specs.Feed.{extended};
-use crate::format::HEADER;
-use crate::format::MAX_RECORDS;
-use crate::format::VERSION;
+use crate::header::Header;
+use crate::header::read_header;
 use crate::scan::Survey;
 use crate::scan::extend_records;
 use crate::scan::read_records;
-use record::number::be16;
 use record::refusal::REMOVE_PENDING;
-use record::refusal::TOO_MANY_RECORDS;
-use record::refusal::WRONG_BYTES;
-use record::refusal::WRONG_VERSION;
 
 // The answer of a check; of `check_partial`, readable means readable but for 10.
 pub enum Checked {
@@ -28,29 +23,6 @@ pub enum Extension {
     Full,
     Faulty { number: u32, records: usize },
     Fits(usize),
-}
-
-// What the header of a log says: the number of records, or the number of a refusal.
-pub enum Header {
-    Count(usize),
-    Wrong(u32),
-}
-
-// Reads the header.
-fn read_header(log: &[u8]) -> Header
-    ensures { λ r. ⌜ r ≡ headerOf (now (log .entry)) ⌝ }
-{
-    if log.len() < HEADER {
-        return Header::Wrong(WRONG_BYTES);
-    }
-    if log[0] != VERSION {
-        return Header::Wrong(WRONG_VERSION);
-    }
-    let count = be16(log, 1) as usize;
-    if MAX_RECORDS < count {
-        return Header::Wrong(TOO_MANY_RECORDS);
-    }
-    Header::Count(count)
 }
 
 // The header, then the records: a log but for refusal 10.

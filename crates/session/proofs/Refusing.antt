@@ -1,37 +1,26 @@
 -- The tests of a session, one by one: how it stands, and what its feeds come to.
-use Prim.Native.Nat.{ℕ, _+_, _-_, _/_, _%_, _≤_, _<_}
+use Prim.Native.Nat.{ℕ, _+_, _-_, _≤_, _<_}
 use native.Mathlib.Omega.{arith}
 use mathlib.Core.Path.{_≡_, refl, sym, ap, _∙_}
 use mathlib.Core.Bool.{Bool, true, false, not}
-use mathlib.Core.List.{List, [], _∷_, _++_, reverse}
-use lib.ListN.{length, set, take, drop}
+use mathlib.Core.List.{List, reverse}
+use lib.ListN.{length}
 use lib.Dec.{ltb, leb, eqb}
-use lib.Seq.{length-take-le, getD-take, sets-eq}
+use lib.Seq.{length-take-le, getD-take}
 use borrow.Author.Tests.{lt-ltb, le-ltb, eq-eqb, ne-eqb, ltb-false, leb-false, eqb-true}
 use Rattle.record.specs.Choice.{if_then_else_}
-use Rattle.record.specs.Number.{bigEndian, bytesOf}
+use Rattle.record.specs.Number.{bigEndian}
 use Rattle.record.specs.declared.record.Record.{Record}
 use Rattle.buffer.specs.Buffer.{bufferTooShort, put}
 use Rattle.buffer.specs.declared.output.Output.{Output}
 use Rattle.buffer.specs.declared.output.Output.the-variants.{Written, Refused}
-use Rattle.reader.specs.Log.{logVersion, headerLength, maxRecords, countField, withCount, Reading, readable, refused, readPartial, readLog, checked}
+use Rattle.reader.specs.Log.{headerLength, maxRecords, countField, withCount, Reading, readable, refused, readPartial, readLog, checked}
 use Rattle.reader.specs.Feed.{faultBehind, extended}
 use Rattle.reader.specs.declared.log.Extension.{Extension}
 use Rattle.reader.specs.declared.log.Extension.the-variants.{Full, Faulty, Fits}
 use Rattle.reader.proofs.Laws.{partial-log}
 use Rattle.reader.proofs.Run.{reads}
-use Rattle.session.specs.Session.{openStage, closedStage, sessionUnfit, heldLog, isReadable, sessionFits, stageRefusal, sessionReading, beginLeaves, fedAnswer, feedAnswer, fedBuffer, feedLeaves}
-
--- the stores of the count, and of an empty log
-pub count-put : (count : ℕ) (buffer : List ℕ) → count ≤ maxRecords → headerLength ≤ length buffer → set (set buffer 1 (count / 256)) 2 (count % 256) ≡ withCount count buffer
-unfolding bytesOf
-count-put count buffer few room =
-    let high : count / 256 ≡ count / 256 % 256 = omega arith in
-    sets-eq (count / 256 ∷ count % 256 ∷ []) buffer 1 (omega arith) ∙ ap (λ x. take 1 buffer ++ (x ∷ count % 256 ∷ []) ++ drop 3 buffer) high
-
-pub begin-put : (buffer left : List ℕ) → headerLength ≤ length buffer → left ≡ put 0 (logVersion ∷ bytesOf 2 0) buffer → left ≡ beginLeaves buffer
-unfolding bytesOf
-begin-put buffer left room e = e ∙ rw (le-ltb (length buffer) 3 room) refl
+use Rattle.session.specs.Session.{openStage, closedStage, sessionUnfit, heldLog, isReadable, sessionFits, stageRefusal, sessionReading, fedAnswer, feedAnswer, fedBuffer, feedLeaves}
 
 -- a session that fits its buffer uses no more bytes than there are
 fits-within : (stage used : ℕ) (buffer : List ℕ) → sessionFits stage used buffer ≡ true → used ≤ length buffer

@@ -1,8 +1,5 @@
 // The log that is fed: begin writes an empty one, and feed puts a record behind those that are held.
 ghost use mathlib.Core.Path.{_≡_};
-ghost use Prim.Native.Nat.{_+_, _≤_};
-ghost use lib.ListN.{length};
-ghost use Rattle.reader.specs.Log.{headerLength, maxRecords, withCount};
 ghost use Rattle.session.specs.Session.{beginAnswer, beginLeaves, feedAnswer, feedLeaves};
 use crate::held::stage_refusal;
 use crate::refusal::SESSION_FULL;
@@ -11,19 +8,11 @@ use crate::session::OPEN;
 use buffer::buffer::BUFFER_TOO_SHORT;
 use buffer::buffer::copy;
 use buffer::output::Output;
-use projection::write::write_header;
 use reader::format::HEADER;
+use reader::header::write_count;
+use reader::header::write_header;
 use reader::log::Extension;
 use reader::log::check_extension;
-
-// Writes the number of records into the header of a log.
-fn write_count(count: usize, buf: &mut [u8])
-    requires { ⌜ (count ≤ maxRecords) × (headerLength ≤ length (now buf)) ⌝ }
-    ensures { λ _. ⌜ now (buf .exit) ≡ withCount count (now (buf .entry)) ⌝ }
-{
-    buf[1] = (count / 256) as u8;
-    buf[2] = (count % 256) as u8;
-}
 
 // Begins a session: writes a log without records.
 pub fn begin(buf: &mut [u8]) -> Output

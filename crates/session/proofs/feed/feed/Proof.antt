@@ -53,7 +53,7 @@ add-write-count : tie.Need-add-write-count
 add-write-count c = omega (arith, fits-counted _ _ _ (c .before .before .before .before .before .before .if2 .left) (sym (c .before .before .records .given .1) ∙ c .before .before .before .before .check-extension .ensures) .few)
 
 write-count-requires : tie.Need-write-count-requires
-write-count-requires c κs = let counted = fits-counted _ _ _ (c .before .before .before .before .before .before .before .if2 .left) (sym (c .before .before .before .records .given .1) ∙ c .before .before .before .before .before .check-extension .ensures) in (omega (arith, counted .few), counted .header)
+write-count-requires c κs = fits-counted _ _ _ (c .before .before .before .before .before .before .before .if2 .left) (sym (c .before .before .before .records .given .1) ∙ c .before .before .before .before .before .check-extension .ensures) .header
 
 copy-requires : tie.Need-copy-requires
 copy-requires c κs = search needs

@@ -1,8 +1,8 @@
 -- `read_header` meets its contract: at each return the tests that led there say which case of `headerOf` holds.
 use borrow.Author.Tests.{lt-ltb, le-ltb, eq-eqb, ne-eqb}
 use borrow.Author.Needs.{needs}
-use Rattle.reader.proofs.log.read_header.Statement.{statement}
-use Rattle.reader.proofs.log.read_header.Tie as tie
+use Rattle.reader.proofs.header.read_header.Statement.{statement}
+use Rattle.reader.proofs.header.read_header.Tie as tie
 
 returns : tie.Need-returns
 returns c = rw (lt-ltb _ _ (c .if1 .taken))
