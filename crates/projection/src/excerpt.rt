@@ -13,13 +13,12 @@ use crate::keep::keep;
 use crate::write::write_kept;
 use buffer::output::Output;
 use history::operations::EMPTY_REMOVE;
-use history::operations::FIELDS;
-use history::operations::KIND;
 use history::operations::NO_KIND;
 use history::operations::Operations;
 use history::operations::TABLE;
-use history::operations::VALUE;
+use history::operations::kind_of;
 use history::operations::tabulate;
+use history::operations::value_of;
 use judge::decide::decide;
 use patterns::find::ORDER;
 use reader::format::MAX_RECORDS;
@@ -36,15 +35,14 @@ fn add_value(table: &Operations, o: usize, count: usize, values: &mut Table) -> 
     requires { ⌜ (o < maxRecords) × (count < maxRecords) × (length (now values) ≡ maxRecords) ⌝ }
     ensures { λ r. ⌜ ValueAdded (now (table .entry)) o count (now (values .entry)) r (now (values .exit)) ⌝ }
 {
-    let at = o * FIELDS;
-    let kind = table[at + KIND];
+    let kind = kind_of(table, o);
     if kind == NO_KIND {
         return count;
     }
     if kind == EMPTY_REMOVE {
         return count;
     }
-    push(values, count, table[at + VALUE]);
+    push(values, count, value_of(table, o));
     count + 1
 }
 

@@ -5,11 +5,10 @@ ghost use lib.ListN.{length};
 ghost use Rattle.reader.specs.Log.{maxRecords};
 ghost use Rattle.projection.specs.Marks.{keepsIn, KeptAre};
 use history::operations::EMPTY_REMOVE;
-use history::operations::FIELDS;
-use history::operations::KIND;
 use history::operations::NO_KIND;
 use history::operations::Operations;
-use history::operations::VALUE;
+use history::operations::kind_of;
+use history::operations::value_of;
 use reader::format::MAX_RECORDS;
 use table::table::is_in;
 
@@ -24,15 +23,14 @@ fn keeps(table: &Operations, o: usize, empties: &[u32], values: &[u32]) -> bool
     requires { ⌜ o < maxRecords ⌝ }
     ensures { λ r. ⌜ r ≡ keepsIn (now (table .entry)) (now (empties .entry)) (now (values .entry)) o ⌝ }
 {
-    let at = o * FIELDS;
-    let kind = table[at + KIND];
+    let kind = kind_of(table, o);
     if kind == NO_KIND {
         return false;
     }
     if kind == EMPTY_REMOVE {
         return is_in(o as u32, empties);
     }
-    is_in(table[at + VALUE], values)
+    is_in(value_of(table, o), values)
 }
 
 // Notes for each operation of the table whether it is kept.
