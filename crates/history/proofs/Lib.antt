@@ -5,6 +5,7 @@ pub mod Deciding
 pub mod Entries
 pub mod Events
 pub mod Filling
+pub mod Forms
 pub mod Laws
 pub mod Linking
 pub mod Noting
@@ -20,3 +21,4 @@ pub mod Searching
 pub mod Sheets
 pub mod Tabulating
 pub mod Tracing
+pub mod Writing

@@ -10,7 +10,7 @@ use Rattle.record.proofs.Numbers.{number-there}
 use Rattle.history.specs.Sheet.{sheetHeader, numberBytes, sheetOf, listedField, numbersFrom, listedOn}
 
 -- two bytes for each number
-length-numbers : (listed : List ℕ) → length (numberBytes listed) ≡ 2 * length listed
+pub length-numbers : (listed : List ℕ) → length (numberBytes listed) ≡ 2 * length listed
 unfolding numberBytes bytesOf
 length-numbers [] = refl
 length-numbers (o ∷ listed) = omega (arith, length-numbers listed)

@@ -3,3 +3,4 @@ pub mod callers;
 mod fill;
 pub mod operations;
 pub mod owners;
+pub mod sheet;

@@ -2,12 +2,13 @@
 use Prim.Native.Nat.{ℕ, _+_, _*_, _≤_, _<_}
 use native.Mathlib.Omega.{arith}
 use mathlib.Core.Path.{_≡_, refl, sym, _∙_}
+use mathlib.Core.Bool.{false}
 use mathlib.Core.List.{List}
 use lib.ListN.{length, take}
 use lib.Seq.{length-take-le}
 use borrow.Author.Tests.{lt-ltb, le-ltb, eq-eqb, ne-eqb}
-use Rattle.buffer.specs.Buffer.{bufferTooShort, written}
-use Rattle.reader.specs.Log.{readLog, checked}
+use Rattle.buffer.specs.Buffer.{bufferTooShort, lacksRoom, written}
+use Rattle.reader.specs.Log.{maxRecords, readLog, checked}
 use Rattle.reader.specs.declared.log.Checked.{Checked}
 use Rattle.reader.specs.declared.log.Checked.the-variants as check
 use Rattle.reader.proofs.Laws.{readable-log, checked-refused}
@@ -30,30 +31,27 @@ use Rattle.judge.specs.declared.judge.Verdict.the-variants.{Order, Patte
 pub tabled-held : {log : List ℕ} {count end : ℕ} {table : List ℕ} → Tabled log count end table → Held (tabled count end table)
 tabled-held {log} t = record { lawful = agree-lawful (agree-sym (t .agree)) (history-lawful (readable-log log (t .records) (t .reads))); few = t .few; short = t .short }
 
--- a verdict has a byte
-pub decided-byte : {h : History} {byte k : ℕ} {list : List ℕ} → Decided h byte k list → byte < 256
-decided-byte decided = omega (arith, complete-small (decided .verdict))
+-- a verdict has a byte, and lists no more than a log has records
+pub decided-small : {h : History} {byte k : ℕ} {list : List ℕ} → Decided h byte k list → (byte < 256) × (length (take k list) ≤ maxRecords)
+decided-small {k = k} {list} decided =
+    (omega (arith, complete-small (decided .verdict)), omega (arith, length-take-le k list (omega (arith, decided .within, decided .sized)), decided .within))
 
--- what is found is delivered
-module _ (byte : ℕ) (list : List ℕ) (k : ℕ) (within : k ≤ length list) (sheet : List ℕ) where
-  listed-long : length (take k list) ≡ k
-  listed-long = length-take-le k list within
-
-  pub delivers-nothing : length sheet < 4 + 2 * k → Delivers byte (take k list) sheet (Refused bufferTooShort 0) sheet
+-- a verdict is delivered
+module _ (byte : ℕ) (listed sheet : List ℕ) where
+  pub delivers-nothing : length sheet < 4 + 2 * length listed → Delivers byte listed sheet (Refused bufferTooShort 0) sheet
   delivers-nothing short =
-      let lacks = lt-ltb (length sheet) (length (sheetOf byte (take k list))) (omega (arith, sheet-length byte (take k list), listed-long)) in
+      let lacks = lt-ltb (length sheet) (length (sheetOf byte listed)) (omega (arith, sheet-length byte listed)) in
       record { answers = rw lacks refl; leaves = rw lacks refl }
 
-  module _ (room : 4 + 2 * k ≤ length sheet) {sheet' : List ℕ} (wrote : sheet' ≡ written (sheetOf byte (take k list)) sheet) where
-    pub delivers-order : byte ≡ orderVerdict → Delivers byte (take k list) sheet (Order k) sheet'
-    delivers-order e =
-        let fits = le-ltb (length sheet) (length (sheetOf byte (take k list))) (omega (arith, sheet-length byte (take k list), listed-long)) in
-        record { answers = rw (fits, eq-eqb byte orderVerdict e, listed-long) refl; leaves = wrote }
+  module _ (room : 4 + 2 * length listed ≤ length sheet) {sheet' : List ℕ} (wrote : sheet' ≡ written (sheetOf byte listed) sheet) where
+    fits : lacksRoom (sheetOf byte listed) sheet ≡ false
+    fits = le-ltb (length sheet) (length (sheetOf byte listed)) (omega (arith, sheet-length byte listed))
 
-    pub delivers-pattern : (byte ≡ orderVerdict → ⊥) → Delivers byte (take k list) sheet (Pattern byte k) sheet'
-    delivers-pattern n =
-        let fits = le-ltb (length sheet) (length (sheetOf byte (take k list))) (omega (arith, sheet-length byte (take k list), listed-long)) in
-        record { answers = rw (fits, ne-eqb byte orderVerdict n, listed-long) refl; leaves = wrote }
+    pub delivers-order : byte ≡ orderVerdict → Delivers byte listed sheet (Order (length listed)) sheet'
+    delivers-order e = record { answers = rw (fits, eq-eqb byte orderVerdict e) refl; leaves = wrote }
+
+    pub delivers-pattern : (byte ≡ orderVerdict → ⊥) → Delivers byte listed sheet (Pattern byte (length listed)) sheet'
+    delivers-pattern n = record { answers = rw (fits, ne-eqb byte orderVerdict n) refl; leaves = wrote }
 
 -- a readable log is judged
 pub log-judged : {log : List ℕ} {count end byte k : ℕ} {table list sheet sheet' : List ℕ} {answer : Verdict} → Tabled log count end table → Decided (tabled count end table) byte k list

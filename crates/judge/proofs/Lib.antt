@@ -1,4 +1,3 @@
 pub mod Answering
 pub mod Deciding
 pub mod Laws
-pub mod Writing

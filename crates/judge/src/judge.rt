@@ -1,17 +1,14 @@
 // Judging: a log goes in, and a verdict comes out, whose operations stand on the lent sheet. What is right is said in specs/Judge.antt.
-ghost use mathlib.Core.Path.{_≡_};
 ghost use Prim.Native.Nat.{_≤_, _<_};
-ghost use lib.ListN.{length, take};
+ghost use lib.ListN.{length};
 ghost use Rattle.reader.specs.Log.{maxRecords, readLog};
 ghost use Rattle.judge.specs.Judge.{Judges, Delivers};
 use crate::decide::decide;
-use crate::sheet::HEADER;
-use crate::sheet::write_sheet;
 use buffer::buffer::BUFFER_TOO_SHORT;
 use history::operations::TABLE;
 use history::operations::tabulate;
-use matching::values::Numbers;
-use patterns::find::Finding;
+use history::sheet::SHEET_HEADER;
+use history::sheet::write_sheet;
 use patterns::find::ORDER;
 use reader::format::MAX_RECORDS;
 use reader::log::Checked;
@@ -24,20 +21,19 @@ pub enum Verdict {
     Refused { number: u32, index: usize },
 }
 
-// Writes the sheet of what was found, if there is room for it.
-fn deliver(f: Finding, list: &Numbers, sheet: &mut [u8]) -> Verdict
-    requires { ⌜ (f .verdict < 256) × (f .listed ≤ maxRecords) × (length (now list) ≡ maxRecords) ⌝ }
-    ensures { λ v. ⌜ Delivers (f .verdict) (take (f .listed) (now (list .entry))) (now (sheet .entry)) v (now (sheet .exit)) ⌝ }
+// Writes the sheet of a verdict that lists these operations, if there is room for it.
+fn deliver(verdict: u32, listed: &[u32], sheet: &mut [u8]) -> Verdict
+    requires { ⌜ (verdict < 256) × (length (now listed) ≤ maxRecords) ⌝ }
+    ensures { λ v. ⌜ Delivers verdict (now (listed .entry)) (now (sheet .entry)) v (now (sheet .exit)) ⌝ }
 {
-    let k = f.listed;
-    if sheet.len() < HEADER + 2 * k {
+    let k = listed.len();
+    if sheet.len() < SHEET_HEADER + 2 * k {
         return Verdict::Refused {
             number: BUFFER_TOO_SHORT,
             index: 0,
         };
     }
-    let verdict = f.verdict;
-    write_sheet(verdict, list, k, sheet);
+    write_sheet(verdict, listed, sheet);
     if verdict == ORDER {
         return Verdict::Order(k);
     }
@@ -60,7 +56,7 @@ pub fn judge(log: &[u8], sheet: &mut [u8]) -> Verdict
         } => {
             let mut list = [0u32; MAX_RECORDS];
             let found = decide(&table, operations, records, &mut list);
-            deliver(found, &list, sheet)
+            deliver(found.verdict, &list[..found.listed], sheet)
         }
     }
 }

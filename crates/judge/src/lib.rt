@@ -2,4 +2,3 @@
 // This crate knows nothing of replay.
 pub mod decide;
 pub mod judge;
-mod sheet;

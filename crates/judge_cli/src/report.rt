@@ -6,20 +6,19 @@ ghost use Rattle.history.specs.Sheet.{sheetHeader, numbersFrom};
 ghost use Rattle.text.specs.Text.{Puts};
 ghost use Rattle.judge_cli.specs.Report.{countsLine, orderLine, patternLine, refusalLine, Reported};
 ghost use Rattle.judge_cli.specs.Writing.{reportRoom, countsOf, listing, answerLine, OnSheet};
+use history::sheet::SHEET_HEADER;
+use history::sheet::operation_at;
 use judge::judge::Verdict;
 use judge::judge::judge;
 use reader::format::MAX_RECORDS;
 use reader::log::Checked;
 use reader::log::check;
-use record::number::be16;
 use text::text::end_line;
 use text::text::put_bytes;
 use text::text::put_field;
 
-const HEADER: usize = 4;
-
 // The sheet is always long enough: a verdict on a log lists at most as many operations as a log may have records, in two bytes each.
-const SHEET: usize = HEADER + 2 * MAX_RECORDS;
+const SHEET: usize = SHEET_HEADER + 2 * MAX_RECORDS;
 
 // The longest first line, with two numbers of four digits.
 const FIRST_LINE: usize = 33;
@@ -67,7 +66,7 @@ fn put_listed(text: &mut [u8], at: usize, sheet: &[u8], k: usize) -> usize
     let mut next = at;
     let mut i = 0;
     while i < k {
-        next = put_field(text, next, be16(sheet, HEADER + 2 * i) as usize);
+        next = put_field(text, next, operation_at(sheet, i));
         i += 1;
     }
     next

@@ -8,13 +8,13 @@ use Rattle.reader.specs.declared.log.Checked.{Checked}
 use Rattle.reader.specs.declared.log.Checked.the-variants as check
 use Rattle.reader.proofs.Laws.{readable-log, checked-refused}
 use Rattle.history.specs.Linearization.{CompleteLinearization}
-use Rattle.history.specs.Sheet.{listedOn}
+use Rattle.history.specs.Sheet.{listedOn, isOrderSheet}
 use Rattle.history.specs.Table.{tabled}
 use Rattle.history.proofs.Agreeing.{agree-sym, agree-complete}
 use Rattle.history.proofs.Laws.{history-returned}
 use Rattle.history.proofs.Queues.{complete-linearization, returned-complete}
 use Rattle.history.proofs.Tabulating.{Tabled}
-use Rattle.replay.specs.Replay.{isOrderSheet, wrongSheet, replayed}
+use Rattle.replay.specs.Replay.{wrongSheet, replayed}
 use Rattle.replay.proofs.Laws.{legal-is-yes, other-is-no, form-is-refused, log-refused-first}
 use Rattle.replay.specs.declared.replay.Replayed.the-variants.{Yes, No, Refused}
 

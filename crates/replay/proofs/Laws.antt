@@ -14,12 +14,12 @@ use Rattle.reader.proofs.Laws.{within, few-operations}
 use Rattle.history.specs.Object.{Queue}
 use Rattle.history.specs.Linearization.{Linearization}
 use Rattle.history.specs.Operations.{historyOf}
-use Rattle.history.specs.Sheet.{orderVerdict, sheetHeader, sheetOf, listedField, listedOn}
+use Rattle.history.specs.Sheet.{orderVerdict, sheetHeader, sheetOf, listedField, listedOn, isOrderSheet}
 use Rattle.history.proofs.Counting.{ordering-short}
 use Rattle.history.proofs.Deciding.{linearization?}
+use Rattle.history.proofs.Forms.{sheet-by-length}
 use Rattle.history.proofs.Sheets.{sheet-length, sheet-lists, listed-length}
-use Rattle.replay.specs.Replay.{wrongSheet, isOrderSheet, replayed, ListsLinearization, ListsOther}
-use Rattle.replay.proofs.Forms.{sheet-by-length}
+use Rattle.replay.specs.Replay.{wrongSheet, replayed, ListsLinearization, ListsOther}
 use Rattle.replay.specs.declared.replay.Replayed.the-variants.{Yes, No, Refused}
 
 -- what replay finds of a readable log and a sheet

@@ -1,5 +1,4 @@
 pub mod Answering
-pub mod Forms
 pub mod Laws
 pub mod Marking
 pub mod Placing

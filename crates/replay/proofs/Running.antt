@@ -9,14 +9,13 @@ use Rattle.record.specs.Number.{bigEndian}
 use Rattle.reader.specs.Log.{maxRecords}
 use Rattle.history.specs.History.{History}
 use Rattle.history.specs.Linearization.{CompleteLinearization}
-use Rattle.history.specs.Sheet.{sheetHeader, listedField, listedOn}
+use Rattle.history.specs.Sheet.{sheetHeader, listedField, listedOn, isOrderSheet}
+use Rattle.history.proofs.Forms.{sheet-long}
 use Rattle.history.proofs.Sheets.{listed-length, listed-at}
-use Rattle.replay.specs.Replay.{isOrderSheet}
 use Rattle.replay.specs.Trial.{Unmarked, Kept, After, Stepped, AllPlaced}
 use Rattle.replay.specs.declared.order.Progress.{Progress}
 use Rattle.replay.specs.declared.order.Step.{Step}
 use Rattle.replay.specs.declared.order.Step.the-variants.{Placed, Illegal}
-use Rattle.replay.proofs.Forms.{sheet-long}
 use Rattle.replay.proofs.Placing.{kept-none}
 
 -- The first i of the k operations are placed.

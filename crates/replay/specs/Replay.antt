@@ -1,33 +1,22 @@
 -- What replay answers for a log and a sheet. Document 01, "Turned down by what was handed in", 11, and demand 2: replay says yes
 -- to a log and an order exactly if that order is legal for that log.
-use Prim.Native.Nat.{ℕ, _+_, _*_}
+use Prim.Native.Nat.{ℕ}
 use mathlib.Core.Path.{_≡_}
-use mathlib.Core.Bool.{Bool, true, false, not}
+use mathlib.Core.Bool.{true}
 use mathlib.Core.List.{List}
-use lib.ListN.{length, getD}
-use lib.Dec.{ltb, eqb}
 use Rattle.record.specs.Choice.{if_then_else_}
 use Rattle.record.specs.declared.record.Record.{Record}
 use Rattle.reader.specs.Log.{Reading, readable, refused, readLog}
 use Rattle.history.specs.Object.{Queue}
 use Rattle.history.specs.Linearization.{Linearization}
 use Rattle.history.specs.Operations.{historyOf}
-use Rattle.history.specs.Sheet.{sheetVersion, orderVerdict, sheetHeader, listedField, listedOn}
+use Rattle.history.specs.Sheet.{listedOn, isOrderSheet}
 use Rattle.history.proofs.Deciding.{linearization?}
 use Rattle.replay.specs.declared.replay.Replayed.{Replayed}
 use Rattle.replay.specs.declared.replay.Replayed.the-variants.{Yes, No, Refused}
 
 abbrev pub wrongSheet : ℕ
 wrongSheet = 11
-
--- Whether a sheet has the form of an order. It has not, which is 11, if "the sheet has under 4 bytes, version not 1, verdict not 0, or
--- length not 4 + 2k".
-abbrev pub isOrderSheet : List ℕ → Bool
-isOrderSheet sheet =
-    if ltb (length sheet) sheetHeader then false else
-    if not (eqb (getD sheet 0 0) sheetVersion) then false else
-    if not (eqb (getD sheet 1 0) orderVerdict) then false else
-    eqb (length sheet) (sheetHeader + 2 * listedField sheet)
 
 -- yes exactly if what is asked holds
 abbrev pub says : {P : Type 0} → Dec P → Replayed

@@ -2,4 +2,3 @@
 // nothing of how an order is found.
 mod order;
 pub mod replay;
-mod sheet;

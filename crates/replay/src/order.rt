@@ -8,12 +8,9 @@ ghost use lib.ListN.{length};
 ghost use Rattle.reader.specs.Log.{maxRecords};
 ghost use Rattle.history.specs.Answers.{Decides};
 ghost use Rattle.history.specs.Linearization.{CompleteLinearization};
-ghost use Rattle.history.specs.Sheet.{listedOn};
+ghost use Rattle.history.specs.Sheet.{listedOn, isOrderSheet};
 ghost use Rattle.history.specs.Table.{tabled};
-ghost use Rattle.replay.specs.Replay.{isOrderSheet};
 ghost use Rattle.replay.specs.Trial.{Unmarked, Room, Serves, StepsIn, TriedIn, ReturnIsMarked, AllMarked};
-use crate::sheet::listed_on;
-use crate::sheet::operation_at;
 use history::operations::ADD;
 use history::operations::EMPTY_REMOVE;
 use history::operations::Operations;
@@ -22,6 +19,8 @@ use history::operations::call_of;
 use history::operations::kind_of;
 use history::operations::return_of;
 use history::operations::value_of;
+use history::sheet::listed_on;
+use history::sheet::operation_at;
 use reader::format::MAX_RECORDS;
 
 // How far an order has been run: the latest call among the operations placed, and where the queue's front and back are.

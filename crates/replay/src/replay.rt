@@ -3,9 +3,9 @@ ghost use mathlib.Core.Path.{_≡_};
 ghost use Rattle.reader.specs.Log.{readLog};
 ghost use Rattle.replay.specs.Replay.{replayed};
 use crate::order::is_linearization;
-use crate::sheet::is_order_sheet;
 use history::operations::TABLE;
 use history::operations::tabulate;
+use history::sheet::is_order_sheet;
 use reader::log::Checked;
 
 // Yes, if the sheet lists a legal order of the log's operations; no, if what it lists is none; or a refusal, of the log under 1 to 10 or of

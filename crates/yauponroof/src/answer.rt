@@ -4,6 +4,7 @@ ghost use Prim.Native.Nat.{_<_};
 ghost use Rattle.buffer.specs.Output.{refusalUnit, refusal, outputAnswer};
 ghost use Rattle.yauponroof.specs.Answer.{judgeAnswer, Modest, SmallOutput};
 use buffer::output::Output;
+use history::sheet::SHEET_HEADER;
 use judge::judge::Verdict;
 
 // What a refusal's number is multiplied by: it stands in the high 32 bits.
@@ -16,9 +17,6 @@ pub(crate) fn refuse(number: u32, index: usize) -> u64
 {
     (number as u64) * REFUSAL_UNIT + index as u64
 }
-
-// The bytes of a sheet before the operations that it lists.
-const SHEET_HEADER: usize = 4;
 
 // The verdict of judging as an answer.
 pub(crate) fn judged(v: Verdict) -> u64

@@ -1,5 +1,4 @@
 -- `deliver` meets its contract.
-use native.Mathlib.Omega.{arith}
 use Rattle.judge.proofs.Answering.{delivers-nothing, delivers-order, delivers-pattern}
 use borrow.Author.Needs.{needs}
 use Rattle.judge.proofs.judge.deliver.Statement.{statement}
@@ -12,7 +11,7 @@ add-if1 : tie.Need-add-if1
 add-if1 c = search needs
 
 returns : tie.Need-returns
-returns c = delivers-nothing (c .before .before .args .f .verdict) (c .before .before .args .list .now) (c .before .before .args .f .listed) (omega (arith, c .before .before .pre .1, c .before .before .pre .2)) (c .before .before .args .sheet .now) (c .if1 .taken)
+returns c = let a = c .before .before .before .args in delivers-nothing (a .verdict) (a .listed .now) (a .sheet .now) (c .if1 .taken)
 
 write-sheet-requires : tie.Need-write-sheet-requires
 write-sheet-requires c κs = search needs
@@ -21,13 +20,15 @@ same-length : tie.Need-same-length
 same-length c = search needs
 
 returns-2 : tie.Need-returns-2
-returns-2 c = delivers-order (c .before .before .before .before .before .before .before .args .f .verdict) (c .before .before .before .before .before .before .before .args .list .now) (c .before .before .before .before .before .before .before .args .f .listed) (omega (arith, c .before .before .before .before .before .before .before .pre .1, c .before .before .before .before .before .before .before .pre .2)) (c .before .before .before .before .before .before .before .args .sheet .now) (c .before .before .before .before .before .if1 .left) (c .before .before .before .write-sheet .ensures) (c .if2 .taken)
+returns-2 c = let a = c .before .before .before .before .before .before .before .before .args in
+    delivers-order (a .verdict) (a .listed .now) (a .sheet .now) (c .before .before .before .before .before .if1 .left) (c .before .before .before .write-sheet .ensures) (c .if2 .taken)
 
 same-length-2 : tie.Need-same-length-2
 same-length-2 c = search needs
 
 returns-3 : tie.Need-returns-3
-returns-3 c = delivers-pattern (c .before .before .before .before .before .before .before .args .f .verdict) (c .before .before .before .before .before .before .before .args .list .now) (c .before .before .before .before .before .before .before .args .f .listed) (omega (arith, c .before .before .before .before .before .before .before .pre .1, c .before .before .before .before .before .before .before .pre .2)) (c .before .before .before .before .before .before .before .args .sheet .now) (c .before .before .before .before .before .if1 .left) (c .before .before .before .write-sheet .ensures) (c .if2 .left)
+returns-3 c = let a = c .before .before .before .before .before .before .before .before .args in
+    delivers-pattern (a .verdict) (a .listed .now) (a .sheet .now) (c .before .before .before .before .before .if1 .left) (c .before .before .before .write-sheet .ensures) (c .if2 .left)
 
 pub deliver-spec : {M : Type 1} → statement M
 deliver-spec =

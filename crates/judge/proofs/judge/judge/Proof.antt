@@ -1,7 +1,9 @@
 -- `judge` meets its contract: what is found for the table holds of the log, whose history agrees with it.
-use mathlib.Core.Path.{refl}
+use native.Mathlib.Omega.{arith}
+use mathlib.Core.Path.{refl, sym}
+use lib.Seq.{length-take-le}
 use Rattle.history.proofs.Tabulating.{log-tabled}
-use Rattle.judge.proofs.Answering.{tabled-held, decided-byte, log-judged, log-refused}
+use Rattle.judge.proofs.Answering.{tabled-held, decided-small, log-judged, log-refused}
 use borrow.Author.Needs.{needs}
 use Rattle.judge.proofs.judge.judge.Statement.{statement}
 use Rattle.judge.proofs.judge.judge.Tie as tie
@@ -18,8 +20,14 @@ enum-known-records c = search needs
 decide-requires : tie.Need-decide-requires
 decide-requires c κs = (tabled-held (log-tabled (c .before .before .before .before .before .before .before .before .before .args .log .now) (c .before .before .before .before .before .tabulate .ensures .0) (c .before .before .before .records .given .1) _ _ (c .before .before .before .before .before .tabulate .ensures .1)), refl)
 
+array-share-prefix-list : tie.Need-array-share-prefix-list
+array-share-prefix-list c = search needs
+
+slice-aggregate-deliver : tie.Need-slice-aggregate-deliver
+slice-aggregate-deliver c = sym (length-take-le _ _ (omega arith))
+
 deliver-requires : tie.Need-deliver-requires
-deliver-requires c κs = (decided-byte (c .before .before .decide .ensures), c .before .before .decide .ensures .within, c .before .before .decide .ensures .sized)
+deliver-requires c κs = decided-small (c .before .before .decide .ensures)
 
 returns : tie.Need-returns
 returns c = log-refused (c .before .before .before .before .before .before .before .args .log .now) (c .before .before .before .before .before .before .before .args .sheet .now) (c .before .before .before .tabulate .ensures .0) (c .before .number .given .1)
@@ -38,6 +46,8 @@ judge-spec =
     enum-known-number
     enum-known-records
     decide-requires
+    array-share-prefix-list
+    slice-aggregate-deliver
     deliver-requires
     returns
     same-length

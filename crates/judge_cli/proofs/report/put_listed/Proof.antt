@@ -19,20 +19,11 @@ abbrev μ-loop : tie.MeasureT-loop
 loop-holds : tie.Need-loop-holds Inv-loop μ-loop
 loop-holds c = let a = c .before .before .args in (omega arith, refl, puts-same (listing-none (a .sheet .now)) (puts-nothing (a .text .now) (a .at)))
 
-mul-be16 : tie.Need-mul-be16 Inv-loop μ-loop
-mul-be16 c = omega arith
-
-add-be16 : tie.Need-add-be16 Inv-loop μ-loop
-add-be16 c = omega arith
-
-be16-requires : tie.Need-be16-requires Inv-loop μ-loop
-be16-requires c κs = omega arith
-
-cast-put-field : tie.Need-cast-put-field Inv-loop μ-loop
-cast-put-field c = omega arith
+operation-at-requires : tie.Need-operation-at-requires Inv-loop μ-loop
+operation-at-requires c κs = omega arith
 
 put-field-requires : tie.Need-put-field-requires Inv-loop μ-loop
-put-field-requires c κs = let l = c .before .before .before .loop in let a = c .before .before .before .before .before .before .args in omega (arith, l .inv .1, l .inv .2 .ends, listing-room (a .sheet .now) (l .i) (c .be16 .ensures) (a .k) (omega arith))
+put-field-requires c κs = let l = c .before .before .before .loop in let a = c .before .before .before .before .before .before .args in omega (arith, l .inv .1, l .inv .2 .ends, listing-room (a .sheet .now) (l .i) (c .operation-at .ensures) (a .k) (omega arith))
 
 add-i : tie.Need-add-i Inv-loop μ-loop
 add-i c = omega arith
@@ -46,7 +37,7 @@ loop-again c =
     let read = put .before in
     let l = read .before .before .before .loop in
     let a = read .before .before .before .before .before .before .args in
-    (omega arith, omega arith, puts-same (listing-more (a .sheet .now) (l .i) (read .be16 .ensures)) (puts-more (l .inv .2) (put .put-field .ensures) (omega arith)))
+    (omega arith, omega arith, puts-same (listing-more (a .sheet .now) (l .i) (read .operation-at .ensures)) (puts-more (l .inv .2) (put .put-field .ensures) (omega arith)))
 
 same-length : tie.Need-same-length Inv-loop μ-loop
 same-length c = c .before .loop .inv .1
@@ -61,10 +52,7 @@ put-listed-spec =
     Inv-loop
     μ-loop
     loop-holds
-    mul-be16
-    add-be16
-    be16-requires
-    cast-put-field
+    operation-at-requires
     put-field-requires
     add-i
     loop-less

@@ -2,11 +2,11 @@
 use native.Mathlib.Omega.{arith}
 use mathlib.Core.Path.{ap, _∙_}
 use mathlib.Core.List.{[], _∷_}
-use lib.ListN.{length}
+use lib.ListN.{length-set}
 use lib.Seq.{sets-eq}
 use Rattle.record.specs.Number.{bytesOf}
 use Rattle.buffer.specs.Buffer.{put}
-use Rattle.buffer.proofs.Copying.{put-length, put-behind}
+use Rattle.buffer.proofs.Copying.{put-behind}
 use Rattle.reader.specs.Log.{logVersion}
 use borrow.Author.Needs.{needs}
 use Rattle.reader.proofs.header.write_header.Statement.{statement}
@@ -26,9 +26,7 @@ returns c = let a = c .before .before .before .before .before .args in
     ∙ put-behind 0 (logVersion ∷ []) (bytesOf 2 (a .count)) (a .out .now) (omega arith)
 
 same-length : tie.Need-same-length
-unfolding bytesOf
-same-length c = let a = c .before .before .before .before .before .args in
-    ap length (returns c) ∙ put-length 0 (logVersion ∷ bytesOf 2 (a .count)) (a .out .now) (omega arith)
+same-length c = omega (arith, length-set (c .before .before .before .before .before .args .out .now) 0 logVersion)
 
 pub write-header-spec : {M : Type 1} → statement M
 write-header-spec = tie.close (tie.spec slice-write-out write-count-requires same-length returns)

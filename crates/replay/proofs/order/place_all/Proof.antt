@@ -6,7 +6,7 @@ use native.Mathlib.Omega.{arith}
 use mathlib.Core.Path.{refl}
 use borrow.Author.Needs.{needs}
 use Rattle.history.specs.Table.{tabled}
-use Rattle.replay.proofs.Forms.{sheet-long}
+use Rattle.history.proofs.Forms.{sheet-long}
 use Rattle.replay.proofs.Running.{Running, running-starts, running-next, running-ends, running-stops}
 
 abbrev Inv-loop : tie.InvT-loop

@@ -1,11 +1,11 @@
 -- `is_order_sheet` meets its contract: the tests of a sheet's form, in their order.
 use borrow.Author.Needs.{needs}
-use Rattle.replay.proofs.sheet.is_order_sheet.Statement.{statement}
-use Rattle.replay.proofs.sheet.is_order_sheet.Tie as tie
+use Rattle.history.proofs.sheet.is_order_sheet.Statement.{statement}
+use Rattle.history.proofs.sheet.is_order_sheet.Tie as tie
 use native.Mathlib.Omega.{arith}
 use mathlib.Core.Path.{refl}
 use borrow.Author.Tests.{lt-ltb}
-use Rattle.replay.proofs.Forms.{sheet-other-version, sheet-other-verdict, sheet-by-length}
+use Rattle.history.proofs.Forms.{sheet-other-version, sheet-other-verdict, sheet-by-length}
 
 returns : tie.Need-returns
 returns c = rw (lt-ltb _ _ (c .if1 .taken)) refl

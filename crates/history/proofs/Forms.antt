@@ -8,8 +8,7 @@ use lib.ListN.{length, getD}
 use lib.Dec.{ltb, eqb}
 use borrow.Author.Tests.{eqb-true, le-ltb, ne-eqb, eq-eqb}
 use Rattle.record.specs.Choice.{if_then_else_}
-use Rattle.history.specs.Sheet.{sheetHeader, sheetVersion, orderVerdict, listedField}
-use Rattle.replay.specs.Replay.{isOrderSheet}
+use Rattle.history.specs.Sheet.{sheetHeader, sheetVersion, orderVerdict, listedField, isOrderSheet}
 
 -- the tests of a sheet's form, in their order
 pub sheet-other-version : (sheet : List ℕ) → sheetHeader ≤ length sheet → (getD sheet 0 0 ≡ sheetVersion → ⊥) → false ≡ isOrderSheet sheet
