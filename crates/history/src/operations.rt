@@ -20,22 +20,22 @@ pub const EMPTY_REMOVE: u32 = 3;
 pub const NO_KIND: u32 = 0;
 
 // The fields of an operation's entry, which starts at FIELDS times its number.
-pub const FIELDS: usize = 4;
+pub(crate) const FIELDS: usize = 4;
 
-pub const KIND: usize = 0;
+pub(crate) const KIND: usize = 0;
 
-pub const VALUE: usize = 1;
+pub(crate) const VALUE: usize = 1;
 
-pub const CALL: usize = 2;
+pub(crate) const CALL: usize = 2;
 
-pub const RETURN: usize = 3;
+pub(crate) const RETURN: usize = 3;
 
 // A table with an entry for each operation that a log may have.
 pub const TABLE: usize = 4096;
 
 pub type Operations = [u32; TABLE];
 
-// The kind of an operation, by its number.
+// The kind of an operation.
 pub fn kind_of(table: &Operations, o: usize) -> u32
     requires { ⌜ o < maxRecords ⌝ }
     ensures { λ r. ⌜ r ≡ kindAt (now (table .entry)) o ⌝ }
@@ -43,7 +43,7 @@ pub fn kind_of(table: &Operations, o: usize) -> u32
     table[o * FIELDS + KIND]
 }
 
-// Its value, or 0 where it has none.
+// The value of an operation, or 0 if it has none.
 pub fn value_of(table: &Operations, o: usize) -> u32
     requires { ⌜ o < maxRecords ⌝ }
     ensures { λ r. ⌜ r ≡ valueAt (now (table .entry)) o ⌝ }
@@ -51,7 +51,7 @@ pub fn value_of(table: &Operations, o: usize) -> u32
     table[o * FIELDS + VALUE]
 }
 
-// The position of its call.
+// The position of an operation's call.
 pub fn call_of(table: &Operations, o: usize) -> u32
     requires { ⌜ o < maxRecords ⌝ }
     ensures { λ r. ⌜ r ≡ callAt (now (table .entry)) o ⌝ }
@@ -59,7 +59,7 @@ pub fn call_of(table: &Operations, o: usize) -> u32
     table[o * FIELDS + CALL]
 }
 
-// The position of its return, or the end where it has not returned.
+// The position of an operation's return, or the end if it has not returned.
 pub fn return_of(table: &Operations, o: usize) -> u32
     requires { ⌜ o < maxRecords ⌝ }
     ensures { λ r. ⌜ r ≡ returnAt (now (table .entry)) o ⌝ }
