@@ -2,7 +2,6 @@
 // the operations. What is legal is said in the history's specs/Linearization.antt, what the code keeps in specs/Trial.antt.
 ghost use mathlib.Core.Path.{_≡_};
 ghost use mathlib.Core.Bool.{true};
-ghost use mathlib.Core.Logic.{_⊎_};
 ghost use Prim.Native.Nat.{_≤_, _<_};
 ghost use lib.ListN.{length};
 ghost use Rattle.reader.specs.Log.{maxRecords};
@@ -22,6 +21,7 @@ use history::operations::value_of;
 use history::sheet::listed_on;
 use history::sheet::operation_at;
 use reader::format::MAX_RECORDS;
+use table::number::max;
 
 // How far an order has been run: the latest call among the operations placed, and where the queue's front and back are.
 pub struct Progress {
@@ -82,13 +82,6 @@ fn serve(kind: u32, value: u32, p: Progress, queue: &mut Queue) -> Step
     }
 }
 
-// The later of two positions.
-fn later(a: u32, b: u32) -> u32
-    ensures { λ r. ⌜ (a ≤ r) × (b ≤ r) × ((r ≡ a) ⊎ (r ≡ b)) ⌝ }
-{
-    if a < b { b } else { a }
-}
-
 // Places an operation behind those that are marked.
 fn place(
     table: &Operations,
@@ -116,7 +109,7 @@ fn place(
     }
     marks[o] = 1;
     let q = Progress {
-        latest: later(latest, call_of(table, o)),
+        latest: max(latest, call_of(table, o)),
         head: p.head,
         tail: p.tail,
     };

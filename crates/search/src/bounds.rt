@@ -1,7 +1,6 @@
 // Which adds may enter the queue: an operation that is left may set a limit to how far their values reach. specs/Bounds.antt says what the tables
 // of limits and of bounds hold.
 ghost use mathlib.Core.Path.{_≡_};
-ghost use mathlib.Core.Logic.{_⊎_};
 ghost use Prim.Native.Nat.{_+_, _≤_, _<_};
 ghost use lib.ListN.{length};
 ghost use Rattle.reader.specs.Log.{maxRecords};
@@ -15,6 +14,7 @@ use history::operations::Operations;
 use history::operations::kind_of;
 use history::operations::return_of;
 use matching::values::Numbers;
+use table::number::min;
 
 // One number more than there are operations.
 pub const BOUNDS: usize = 1025;
@@ -67,13 +67,6 @@ pub(crate) fn fill_limits(
     }
 }
 
-// The smaller of two numbers.
-pub(crate) fn tighter(a: u32, b: u32) -> u32
-    ensures { λ r. ⌜ (r ≤ a) × (r ≤ b) × ((r ≡ a) ⊎ (r ≡ b)) ⌝ }
-{
-    if a < b { a } else { b }
-}
-
 // Fills for each operation the least limit from it on, from the last operation down; behind the last there is none, the end and 1.
 pub(crate) fn fill_bounds(count: usize, end: usize, limit: &Numbers, bound: &mut Bounds)
     requires { ⌜ (count ≤ maxRecords) × (end ≤ maxRecords) × (length (now limit) ≡ maxRecords) × (length (now bound) ≡ maxRecords + 1) ⌝ }
@@ -82,7 +75,7 @@ pub(crate) fn fill_bounds(count: usize, end: usize, limit: &Numbers, bound: &mut
     let mut o = count;
     bound[o] = end as u32 + 1;
     while 0 < o {
-        bound[o - 1] = tighter(limit[o - 1], bound[o]);
+        bound[o - 1] = min(limit[o - 1], bound[o]);
         o -= 1;
     }
 }

@@ -1,6 +1,5 @@
 // The gaps that no value covers, found by one sweep over the positions. specs/Gaps.antt says what the table of gaps holds.
 ghost use mathlib.Core.Path.{_≡_};
-ghost use mathlib.Core.Logic.{_⊎_};
 ghost use Prim.Native.Nat.{_≤_, _<_};
 ghost use lib.ListN.{length};
 ghost use Rattle.reader.specs.Log.{maxRecords};
@@ -13,13 +12,7 @@ use history::operations::Operations;
 use history::operations::kind_of;
 use history::operations::return_of;
 use matching::values::Numbers;
-
-// The larger of two numbers.
-fn further(a: u32, b: u32) -> u32
-    ensures { λ r. ⌜ (a ≤ r) × (b ≤ r) × ((r ≡ a) ⊎ (r ≡ b)) ⌝ }
-{
-    if a < b { b } else { a }
-}
+use table::number::max;
 
 // Notes at the position of each add's return how far its value reaches, the furthest where several return.
 fn open_gaps(table: &Operations, count: usize, end: usize, reach: &Numbers, gaps: &mut Numbers)
@@ -31,7 +24,7 @@ fn open_gaps(table: &Operations, count: usize, end: usize, reach: &Numbers, gaps
         if kind_of(table, a) == ADD {
             let returned = return_of(table, a) as usize;
             if returned < end {
-                gaps[returned] = further(gaps[returned], reach[a]);
+                gaps[returned] = max(gaps[returned], reach[a]);
             }
         }
         a += 1;
@@ -48,7 +41,7 @@ fn sweep(end: usize, gaps: &mut Numbers)
     let mut last = 0;
     let mut g = 0;
     while g < end {
-        furthest = further(furthest, gaps[g]);
+        furthest = max(furthest, gaps[g]);
         if furthest <= g as u32 {
             last = g as u32 + 1;
         }

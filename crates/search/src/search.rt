@@ -15,7 +15,6 @@ ghost use Rattle.matching.specs.Reaches.{Reaching};
 ghost use Rattle.search.specs.Bounds.{limitAt, BoundTable};
 ghost use Rattle.search.specs.Searching.{Limits, LeastOf, LeastReturn, Room, AdmittedOne, Admitted, Fit, QueueRoom, Queues, Placed, Ends};
 use crate::bounds::Bounds;
-use crate::bounds::tighter;
 use crate::order::Ended;
 use history::operations::ADD;
 use history::operations::EMPTY_REMOVE;
@@ -27,6 +26,7 @@ use history::operations::return_of;
 use history::operations::value_of;
 use matching::values::Numbers;
 use reader::format::MAX_RECORDS;
+use table::number::min;
 use table::table::push;
 use table::table::remove;
 
@@ -67,7 +67,7 @@ fn least_return(table: &Operations, count: usize, end: usize, waiting: &Numbers,
     let mut i = 0;
     while i < n {
         let o = waiting[i] as usize;
-        least = tighter(least, return_of(table, o));
+        least = min(least, return_of(table, o));
         i += 1;
     }
     least
@@ -108,7 +108,7 @@ fn admit_next(
     Admission {
         next: next + 1,
         waiting: a.waiting + 1,
-        least: tighter(a.least, return_of(table, next)),
+        least: min(a.least, return_of(table, next)),
     }
 }
 
@@ -149,7 +149,7 @@ fn cap_of(limit: &Numbers, bound: &Bounds, waiting: &Numbers, n: usize, next: us
     let mut cap = bound[next];
     let mut i = 0;
     while i < n {
-        cap = tighter(cap, limit[waiting[i] as usize]);
+        cap = min(cap, limit[waiting[i] as usize]);
         i += 1;
     }
     cap

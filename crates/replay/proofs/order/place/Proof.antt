@@ -26,8 +26,8 @@ element-write-marks c = search needs
 call-of-requires : tie.Need-call-of-requires
 call-of-requires c κs = search needs
 
-later-requires : tie.Need-later-requires
-later-requires c κs = search needs
+max-requires : tie.Need-max-requires
+max-requires c κs = search needs
 
 kind-of-requires : tie.Need-kind-of-requires
 kind-of-requires c κs = search needs
@@ -41,7 +41,7 @@ serve-requires c κs = (c .before .before .before .before .before .before .befor
 returns-4 : tie.Need-returns-4
 returns-4 c = record {
   stepped = λ end.
-      stepped _ _ _ _ _ _ (c .before .before .before .before .before .before .before .before .before .before .if1 .left) (c .before .before .before .before .before .before .before .before .if2 .left) (rw (c .before .before .before .before .before .before .before .return-of .ensures) at (c .before .before .before .before .before .before .if3 .left)) (c .before .before .before .before .later .ensures .0) (rw (c .before .before .before .before .before .call-of .ensures) at (c .before .before .before .before .later .ensures .1)) (rw (c .before .before .before .before .before .call-of .ensures) at (c .before .before .before .before .later .ensures .2)) (rw (c .before .before .before .kind-of .ensures, c .before .before .value-of .ensures) at (c .serve .ensures));
+      stepped _ _ _ _ _ _ (c .before .before .before .before .before .before .before .before .before .before .if1 .left) (c .before .before .before .before .before .before .before .before .if2 .left) (rw (c .before .before .before .before .before .before .before .return-of .ensures) at (c .before .before .before .before .before .before .if3 .left)) (c .before .before .before .before .max .ensures .0) (rw (c .before .before .before .before .before .call-of .ensures) at (c .before .before .before .before .max .ensures .1)) (rw (c .before .before .before .before .before .call-of .ensures) at (c .before .before .before .before .max .ensures .2)) (rw (c .before .before .before .kind-of .ensures, c .before .before .value-of .ensures) at (c .serve .ensures));
 }
 
 pub place-spec : {M : Type 1} → statement M
@@ -55,7 +55,7 @@ place-spec =
     returns-3
     element-write-marks
     call-of-requires
-    later-requires
+    max-requires
     kind-of-requires
     value-of-requires
     serve-requires

@@ -29,23 +29,23 @@ element-write-bound c = search needs
 loop-holds : tie.Need-loop-holds Inv-loop μ-loop
 loop-holds c = (omega arith, bounds-none _ _ _ (c .args .bound .now) (c .pre .0) (c .pre .3))
 
-sub-tighter : tie.Need-sub-tighter Inv-loop μ-loop
-sub-tighter c = search needs
+sub-min : tie.Need-sub-min Inv-loop μ-loop
+sub-min c = search needs
 
-mul-tighter : tie.Need-mul-tighter Inv-loop μ-loop
-mul-tighter c = search needs
+mul-min : tie.Need-mul-min Inv-loop μ-loop
+mul-min c = search needs
 
-element-copy-out-tighter : tie.Need-element-copy-out-tighter Inv-loop μ-loop
-element-copy-out-tighter c = search needs
+element-copy-out-min : tie.Need-element-copy-out-min Inv-loop μ-loop
+element-copy-out-min c = search needs
 
-mul-tighter-2 : tie.Need-mul-tighter-2 Inv-loop μ-loop
-mul-tighter-2 c = search needs
+mul-min-2 : tie.Need-mul-min-2 Inv-loop μ-loop
+mul-min-2 c = search needs
 
-element-copy-out-tighter-2 : tie.Need-element-copy-out-tighter-2 Inv-loop μ-loop
-element-copy-out-tighter-2 c = search needs
+element-copy-out-min-2 : tie.Need-element-copy-out-min-2 Inv-loop μ-loop
+element-copy-out-min-2 c = search needs
 
-tighter-requires : tie.Need-tighter-requires Inv-loop μ-loop
-tighter-requires c κs = search needs
+min-requires : tie.Need-min-requires Inv-loop μ-loop
+min-requires c κs = search needs
 
 sub-bound : tie.Need-sub-bound Inv-loop μ-loop
 sub-bound c = search needs
@@ -63,7 +63,7 @@ loop-less : tie.Need-loop-less Inv-loop μ-loop
 loop-less c = search needs
 
 loop-again : tie.Need-loop-again Inv-loop μ-loop
-loop-again c = (omega arith, bounds-more (c .before .before .before .before .before .pre .0) (c .before .before .before .before .loop .inv .1) (c .before .before .before .loop-test .taken) (c .before .before .before .before .loop .inv .0) (c .tighter .ensures))
+loop-again c = (omega arith, bounds-more (c .before .before .before .before .before .pre .0) (c .before .before .before .before .loop .inv .1) (c .before .before .before .loop-test .taken) (c .before .before .before .before .loop .inv .0) (c .min .ensures))
 
 returns : tie.Need-returns Inv-loop μ-loop
 returns c = let last : c .before .loop .o ≡ 0 = omega arith in rw last at (c .before .loop .inv .1)
@@ -79,12 +79,12 @@ fill-bounds-spec =
     mul-bound
     element-write-bound
     loop-holds
-    sub-tighter
-    mul-tighter
-    element-copy-out-tighter
-    mul-tighter-2
-    element-copy-out-tighter-2
-    tighter-requires
+    sub-min
+    mul-min
+    element-copy-out-min
+    mul-min-2
+    element-copy-out-min-2
+    min-requires
     sub-bound
     mul-bound-2
     element-write-bound-2

@@ -29,20 +29,20 @@ return-of-requires c κs = search needs
 cast-returned : tie.Need-cast-returned Inv-loop μ-loop
 cast-returned c = omega (arith, return-within (c .before .before .before .before .before .pre .0) (c .before .before .before .loop-test .taken))
 
-mul-further : tie.Need-mul-further Inv-loop μ-loop
-mul-further c = search needs
+mul-max : tie.Need-mul-max Inv-loop μ-loop
+mul-max c = search needs
 
-element-copy-out-further : tie.Need-element-copy-out-further Inv-loop μ-loop
-element-copy-out-further c = search needs
+element-copy-out-max : tie.Need-element-copy-out-max Inv-loop μ-loop
+element-copy-out-max c = search needs
 
-mul-further-2 : tie.Need-mul-further-2 Inv-loop μ-loop
-mul-further-2 c = search needs
+mul-max-2 : tie.Need-mul-max-2 Inv-loop μ-loop
+mul-max-2 c = search needs
 
-element-copy-out-further-2 : tie.Need-element-copy-out-further-2 Inv-loop μ-loop
-element-copy-out-further-2 c = search needs
+element-copy-out-max-2 : tie.Need-element-copy-out-max-2 Inv-loop μ-loop
+element-copy-out-max-2 c = search needs
 
-further-requires : tie.Need-further-requires Inv-loop μ-loop
-further-requires c κs = search needs
+max-requires : tie.Need-max-requires Inv-loop μ-loop
+max-requires c κs = search needs
 
 mul-gaps : tie.Need-mul-gaps Inv-loop μ-loop
 mul-gaps c = search needs
@@ -79,11 +79,11 @@ open-gaps-spec =
     kind-of-requires
     return-of-requires
     cast-returned
-    mul-further
-    element-copy-out-further
-    mul-further-2
-    element-copy-out-further-2
-    further-requires
+    mul-max
+    element-copy-out-max
+    mul-max-2
+    element-copy-out-max-2
+    max-requires
     mul-gaps
     element-write-gaps
     add-a

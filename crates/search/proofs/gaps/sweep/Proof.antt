@@ -16,14 +16,14 @@ abbrev μ-loop : tie.MeasureT-loop
 loop-holds : tie.Need-loop-holds Inv-loop μ-loop
 loop-holds c = swept-none _ (c .pre .1)
 
-mul-further : tie.Need-mul-further Inv-loop μ-loop
-mul-further c = search needs
+mul-max : tie.Need-mul-max Inv-loop μ-loop
+mul-max c = search needs
 
-element-copy-out-further : tie.Need-element-copy-out-further Inv-loop μ-loop
-element-copy-out-further c = search needs
+element-copy-out-max : tie.Need-element-copy-out-max Inv-loop μ-loop
+element-copy-out-max c = search needs
 
-further-requires : tie.Need-further-requires Inv-loop μ-loop
-further-requires c κs = search needs
+max-requires : tie.Need-max-requires Inv-loop μ-loop
+max-requires c κs = search needs
 
 cast-if1 : tie.Need-cast-if1 Inv-loop μ-loop
 cast-if1 c = search needs
@@ -47,7 +47,7 @@ loop-less : tie.Need-loop-less Inv-loop μ-loop
 loop-less c = search needs
 
 loop-again : tie.Need-loop-again Inv-loop μ-loop
-loop-again c = swept-more (c .before .before .before .before .loop .inv) (c .before .before .before .loop-test .taken) (c .before .before .before .before .before .pre .0) (c .before .further .ensures) (⊎-elim (λ w. inl (w .0 .taken, w .1)) (λ w. inr (w .0 .left, w .1)) (c .if1 .came))
+loop-again c = swept-more (c .before .before .before .before .loop .inv) (c .before .before .before .loop-test .taken) (c .before .before .before .before .before .pre .0) (c .before .max .ensures) (⊎-elim (λ w. inl (w .0 .taken, w .1)) (λ w. inr (w .0 .left, w .1)) (c .if1 .came))
 
 returns : tie.Need-returns Inv-loop μ-loop
 returns c = swept-all (c .before .loop .inv) (c .loop-test .left)
@@ -59,9 +59,9 @@ sweep-spec =
     Inv-loop
     μ-loop
     loop-holds
-    mul-further
-    element-copy-out-further
-    further-requires
+    mul-max
+    element-copy-out-max
+    max-requires
     cast-if1
     cast-last
     add-last

@@ -29,11 +29,11 @@ add-t15 c = search needs
 return-of-requires : tie.Need-return-of-requires
 return-of-requires c κs = search needs
 
-tighter-requires : tie.Need-tighter-requires
-tighter-requires c κs = search needs
+min-requires : tie.Need-min-requires
+min-requires c κs = search needs
 
 returns-2 : tie.Need-returns-2
-returns-2 c = admitted-more (c .before .before .before .before .before .before .before .pre .0) _ (c .before .before .before .before .before .before .before .pre .3) (rw (not-false (c .before .before .before .before .before .before .is-due .result) (c .before .before .before .before .before .if1 .left)) at (c .before .before .before .before .before .before .is-due .ensures)) (c .before .before .before .before .before .before .before .pre .4) (c .before .before .before .push .ensures) (rw (c .before .return-of .ensures) at (c .tighter .ensures))
+returns-2 c = admitted-more (c .before .before .before .before .before .before .before .pre .0) _ (c .before .before .before .before .before .before .before .pre .3) (rw (not-false (c .before .before .before .before .before .before .is-due .result) (c .before .before .before .before .before .if1 .left)) at (c .before .before .before .before .before .before .is-due .ensures)) (c .before .before .before .before .before .before .before .pre .4) (c .before .before .before .push .ensures) (rw (c .before .return-of .ensures) at (c .min .ensures))
 
 pub admit-next-spec : {M : Type 1} → statement M
 admit-next-spec =
@@ -47,5 +47,5 @@ admit-next-spec =
     add-t14
     add-t15
     return-of-requires
-    tighter-requires
+    min-requires
     returns-2)

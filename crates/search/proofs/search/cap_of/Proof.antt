@@ -26,23 +26,23 @@ element-copy-out-cap c = search needs
 loop-holds : tie.Need-loop-holds Inv-loop μ-loop
 loop-holds c = (omega arith, least-none _ _)
 
-mul-tighter : tie.Need-mul-tighter Inv-loop μ-loop
-mul-tighter c = search needs
+mul-min : tie.Need-mul-min Inv-loop μ-loop
+mul-min c = search needs
 
-element-copy-out-tighter : tie.Need-element-copy-out-tighter Inv-loop μ-loop
-element-copy-out-tighter c = omega (arith, c .before .before .before .pre .1, c .loop-test .taken)
+element-copy-out-min : tie.Need-element-copy-out-min Inv-loop μ-loop
+element-copy-out-min c = omega (arith, c .before .before .before .pre .1, c .loop-test .taken)
 
-cast-tighter : tie.Need-cast-tighter Inv-loop μ-loop
-cast-tighter c = omega (arith, c .before .before .before .before .pre .3 _ (entry (c .before .before .before .before .args .waiting .now) (c .before .before .before .before .args .n) (c .before .before .loop .i) (omega (arith, c .before .before .before .before .pre .1, c .before .before .before .before .pre .2)) (c .before .loop-test .taken)))
+cast-min : tie.Need-cast-min Inv-loop μ-loop
+cast-min c = omega (arith, c .before .before .before .before .pre .3 _ (entry (c .before .before .before .before .args .waiting .now) (c .before .before .before .before .args .n) (c .before .before .loop .i) (omega (arith, c .before .before .before .before .pre .1, c .before .before .before .before .pre .2)) (c .before .loop-test .taken)))
 
-mul-tighter-2 : tie.Need-mul-tighter-2 Inv-loop μ-loop
-mul-tighter-2 c = omega (arith, c .before .before .before .before .pre .3 _ (entry (c .before .before .before .before .args .waiting .now) (c .before .before .before .before .args .n) (c .before .before .loop .i) (omega (arith, c .before .before .before .before .pre .1, c .before .before .before .before .pre .2)) (c .before .loop-test .taken)))
+mul-min-2 : tie.Need-mul-min-2 Inv-loop μ-loop
+mul-min-2 c = omega (arith, c .before .before .before .before .pre .3 _ (entry (c .before .before .before .before .args .waiting .now) (c .before .before .before .before .args .n) (c .before .before .loop .i) (omega (arith, c .before .before .before .before .pre .1, c .before .before .before .before .pre .2)) (c .before .loop-test .taken)))
 
-element-copy-out-tighter-2 : tie.Need-element-copy-out-tighter-2 Inv-loop μ-loop
-element-copy-out-tighter-2 c = omega (arith, c .before .before .before .before .pre .3 _ (entry (c .before .before .before .before .args .waiting .now) (c .before .before .before .before .args .n) (c .before .before .loop .i) (omega (arith, c .before .before .before .before .pre .1, c .before .before .before .before .pre .2)) (c .before .loop-test .taken)))
+element-copy-out-min-2 : tie.Need-element-copy-out-min-2 Inv-loop μ-loop
+element-copy-out-min-2 c = omega (arith, c .before .before .before .before .pre .3 _ (entry (c .before .before .before .before .args .waiting .now) (c .before .before .before .before .args .n) (c .before .before .loop .i) (omega (arith, c .before .before .before .before .pre .1, c .before .before .before .before .pre .2)) (c .before .loop-test .taken)))
 
-tighter-requires : tie.Need-tighter-requires Inv-loop μ-loop
-tighter-requires c κs = search needs
+min-requires : tie.Need-min-requires Inv-loop μ-loop
+min-requires c κs = search needs
 
 add-i : tie.Need-add-i Inv-loop μ-loop
 add-i c = omega (arith, c .before .before .before .loop-test .taken, c .before .before .before .before .before .before .pre .1)
@@ -51,7 +51,7 @@ loop-less : tie.Need-loop-less Inv-loop μ-loop
 loop-less c = omega (arith, c .before .before .before .loop-test .taken)
 
 loop-again : tie.Need-loop-again Inv-loop μ-loop
-loop-again c = (omega (arith, c .before .before .before .loop-test .taken), least-next (c .before .before .before .before .before .before .args .waiting .now) (c .before .before .before .before .loop .i) (omega (arith, c .before .before .before .loop-test .taken, c .before .before .before .before .before .before .pre .1, c .before .before .before .before .before .before .pre .2)) (c .before .before .before .before .loop .inv .1) (c .tighter .ensures))
+loop-again c = (omega (arith, c .before .before .before .loop-test .taken), least-next (c .before .before .before .before .before .before .args .waiting .now) (c .before .before .before .before .loop .i) (omega (arith, c .before .before .before .loop-test .taken, c .before .before .before .before .before .before .pre .1, c .before .before .before .before .before .before .pre .2)) (c .before .before .before .before .loop .inv .1) (c .min .ensures))
 
 returns : tie.Need-returns Inv-loop μ-loop
 returns c = let all : c .before .loop .i ≡ c .before .before .before .args .n = omega (arith, c .before .loop .inv .0, c .loop-test .left) in rw all at (c .before .loop .inv .1)
@@ -65,12 +65,12 @@ cap-of-spec =
     mul-cap
     element-copy-out-cap
     loop-holds
-    mul-tighter
-    element-copy-out-tighter
-    cast-tighter
-    mul-tighter-2
-    element-copy-out-tighter-2
-    tighter-requires
+    mul-min
+    element-copy-out-min
+    cast-min
+    mul-min-2
+    element-copy-out-min-2
+    min-requires
     add-i
     loop-less
     loop-again

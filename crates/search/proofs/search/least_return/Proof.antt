@@ -35,8 +35,8 @@ cast-o c = omega (arith, c .before .before .before .pre .3 _ (entry (c .before .
 return-of-requires : tie.Need-return-of-requires Inv-loop μ-loop
 return-of-requires c κs = omega (arith, c .before .before .before .pre .3 _ (entry (c .before .before .before .args .waiting .now) (c .before .before .before .args .n) (c .before .before .loop .i) (omega (arith, c .before .before .before .pre .1, c .before .before .before .pre .2)) (c .before .loop-test .taken)), c .before .before .before .pre .0 .few)
 
-tighter-requires : tie.Need-tighter-requires Inv-loop μ-loop
-tighter-requires c κs = search needs
+min-requires : tie.Need-min-requires Inv-loop μ-loop
+min-requires c κs = search needs
 
 add-i : tie.Need-add-i Inv-loop μ-loop
 add-i c = omega (arith, c .before .before .before .loop-test .taken, c .before .before .before .before .before .pre .1)
@@ -45,7 +45,7 @@ loop-less : tie.Need-loop-less Inv-loop μ-loop
 loop-less c = omega (arith, c .before .before .before .loop-test .taken)
 
 loop-again : tie.Need-loop-again Inv-loop μ-loop
-loop-again c = (omega (arith, c .before .before .before .loop-test .taken), least-next (c .before .before .before .before .before .args .waiting .now) (c .before .before .before .before .loop .i) (omega (arith, c .before .before .before .loop-test .taken, c .before .before .before .before .before .pre .1, c .before .before .before .before .before .pre .2)) (c .before .before .before .before .loop .inv .1) (rw (c .before .return-of .ensures) at (c .tighter .ensures)))
+loop-again c = (omega (arith, c .before .before .before .loop-test .taken), least-next (c .before .before .before .before .before .args .waiting .now) (c .before .before .before .before .loop .i) (omega (arith, c .before .before .before .loop-test .taken, c .before .before .before .before .before .pre .1, c .before .before .before .before .before .pre .2)) (c .before .before .before .before .loop .inv .1) (rw (c .before .return-of .ensures) at (c .min .ensures)))
 
 returns : tie.Need-returns Inv-loop μ-loop
 returns c = let all : c .before .loop .i ≡ c .before .before .args .n = omega (arith, c .before .loop .inv .0, c .loop-test .left) in rw all at (c .before .loop .inv .1)
@@ -62,7 +62,7 @@ least-return-spec =
     element-copy-out-o
     cast-o
     return-of-requires
-    tighter-requires
+    min-requires
     add-i
     loop-less
     loop-again

@@ -1,0 +1,15 @@
+-- `min` meets its contract.
+use Rattle.table.proofs.number.min.Statement.{statement}
+use Rattle.table.proofs.number.min.Tie as tie
+use native.Mathlib.Omega.{arith}
+use mathlib.Core.Path.{refl}
+use mathlib.Core.Logic.{inl, inr}
+
+returns : tie.Need-returns
+returns c = (omega arith, omega arith, inl refl)
+
+returns-2 : tie.Need-returns-2
+returns-2 c = (omega arith, omega arith, inr refl)
+
+pub min-spec : {M : Type 1} → statement M
+min-spec = tie.close (tie.spec returns returns-2)
