@@ -6,6 +6,7 @@ use mathlib.Core.Bool.{true, decide, decide-iff}
 use mathlib.Core.Logic.{Dec·and, Dec·not}
 use mathlib.Core.List.{List, [], _∷_, map}
 use Rattle.record.specs.Number.{bigEndian, bytesOf}
+use Rattle.record.specs.Frame.{frameAt}
 use Rattle.record.specs.Record.{lengthOf, eventOf, encode, decodeAt}
 use Rattle.reader.specs.Log.{ofOthers, pendingCalls, pendingKind, earliestRemove, addedValues, eventFault, fault, scan, readPartial, operations, encodeAll, Reading, readable, readLog, encodeLog}
 use Rattle.table.specs.Table.{isIn}
@@ -37,7 +38,7 @@ unfolding recordsFrom operations callIndex firstOf positionOf
 history row = historyOf (recordsOf (row .run))
 
 unfoldable pub reading : {A : Type 0} → Row A → Reading
-unfolding recordsFrom encode encodeAll bytesOf bigEndian lengthOf eventOf decodeAt ofOthers pendingCalls pendingKind earliestRemove addedValues isIn eventFault fault scan readPartial
+unfolding recordsFrom encode encodeAll bytesOf bigEndian lengthOf eventOf frameAt decodeAt ofOthers pendingCalls pendingKind earliestRemove addedValues isIn eventFault fault scan readPartial
 reading row = readLog (encodeLog (recordsOf (row .run)))
 
 -- a table is correct if what its rows say is decided to be right

@@ -31,7 +31,7 @@ pub record CallersRoom (count : ℕ) (callers recent : List ℕ) : Type 0 where
 -- The operation of the record r is found, and its caller is noted if the record calls it.
 pub record Owned (r : Record) (count : ℕ) (callers recent : List ℕ) (owner : Owner) (callers' recent' : List ℕ) : Type 0 where
   pub small : owner .operation < maxRecords
-  pub is : (records : List Record) (n : ℕ) → Regular records → n < length records → recordOf records n ≡ r → Traced records n count callers recent
-      → owner .operation ≡ operationAt records n
-  pub traced : (records : List Record) (n : ℕ) → Regular records → n < length records → recordOf records n ≡ r → Traced records n count callers recent
-      → Traced records (n + 1) (owner .count) callers' recent'
+  pub is : (records : List Record) (n : ℕ) → Regular records → n < length records → recordOf records n ≡ r
+      → Traced records n count callers recent → owner .operation ≡ operationAt records n
+  pub traced : (records : List Record) (n : ℕ) → Regular records → n < length records → recordOf records n ≡ r
+      → Traced records n count callers recent → Traced records (n + 1) (owner .count) callers' recent'

@@ -24,11 +24,11 @@ use crate::operations::value_of;
 use crate::owners::owner_of;
 use reader::format::HEADER;
 use reader::format::MAX_RECORDS;
-use record::cursor::read_at;
 use record::record::Decoded;
 use record::record::Event;
 use record::record::Record;
 use record::record::Removed;
+use record::record::decode_at;
 
 // What a remove is, by its return.
 pub struct Outcome {
@@ -114,7 +114,7 @@ pub(crate) fn fill(log: &[u8], end: usize, table: &mut Operations)
     let mut count = 0;
     let mut i = 0;
     while i < end {
-        match read_at(log, at) {
+        match decode_at(log, at) {
             // A readable log has a record here.
             Decoded::Malformed(_) => {
                 return;

@@ -5,12 +5,14 @@ use mathlib.Core.Path.{_≡_, refl, sym, _∙_}
 use mathlib.Core.List.{List}
 use lib.ListN.{length}
 use Rattle.record.specs.Cursor.{behind}
+use Rattle.record.specs.Frame.{frameAt}
 use Rattle.record.specs.Record.{decodeAt, sizeOf}
 use Rattle.record.specs.declared.record.Record.{Record}
 use Rattle.record.specs.declared.record.Decoded.{Decoded}
 use Rattle.record.specs.declared.record.Decoded.the-variants.{Found, Malformed}
 use Rattle.reader.specs.Log.{headerLength, readable, readLog}
 use Rattle.reader.specs.Readable.{recordOf, sizes, offsetOf, ReadableLog}
+use Rattle.reader.proofs.Bytes.{decode-inverts}
 use Rattle.reader.proofs.Laws.{readable-log}
 use Rattle.history.specs.Table.{Whole}
 use Rattle.projection.proofs.Sizes.{offset-more, offset-within}
@@ -55,9 +57,9 @@ module _ {log : List ℕ} {records : List Record} {at i : ℕ} (along : Along lo
     along-next = let found = along-record in record { readable = along .readable; within = omega arith; stands = cc }
 
   -- the same for a reader that has read it
-  module _ {next : ℕ} (e : next ≡ behind (decodeAt log at) at) where
+  module _ {next : ℕ} (e : next ≡ behind (frameAt log at) at) where
     behind-it : next ≡ offsetOf records (i + 1)
-    behind-it = rw along-record at e
+    behind-it = rw (decode-inverts log at along-record .framed) at e
 
     pub along-behind : Along log records next (i + 1)
     along-behind = record { readable = along .readable; within = omega arith; stands = behind-it }

@@ -5,7 +5,8 @@ use mathlib.Core.Path.{_≡_, refl, ap, _∙_}
 use mathlib.Core.List.{List}
 use lib.ListN.{length, getD}
 use Rattle.record.specs.Cursor.{behind}
-use Rattle.record.specs.Record.{decodeAt, sizeOf}
+use Rattle.record.specs.Frame.{frameAt}
+use Rattle.record.specs.Record.{sizeOf}
 use Rattle.reader.specs.Log.{headerLength, maxRecords, maxLength}
 use Rattle.reader.specs.Readable.{recordOf, sizes}
 use Rattle.history.specs.Table.{Whole}
@@ -43,7 +44,7 @@ module _ {log marks : List ℕ} {end count bytes at i : ℕ} (measuring : Measur
       last : i ≡ length (measuring .whole .records)
       last = omega (arith, measuring .along .within, measuring .whole .counted)
 
-  module _ (l : i < end) {next : ℕ} (e : next ≡ behind (decodeAt log at) at) where
+  module _ (l : i < end) {next : ℕ} (e : next ≡ behind (frameAt log at) at) where
     below : i < length (measuring .whole .records)
     below = omega (arith, measuring .whole .counted)
 

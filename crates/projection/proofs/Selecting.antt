@@ -9,7 +9,7 @@ use lib.Dec.{eqb}
 use Rattle.record.specs.Choice.{if_then_else_}
 use Rattle.record.specs.declared.record.Record.{Record}
 use Rattle.reader.specs.Log.{readable, readLog}
-use Rattle.reader.specs.Readable.{recordOf, Orderly}
+use Rattle.reader.specs.Readable.{Orderly}
 use Rattle.history.specs.Operations.{operationOf, operationFrom, operationAt}
 use Rattle.history.proofs.Owning.{operation-called, operation-answered}
 use Rattle.projection.specs.Projection.{keepRecords}

@@ -7,7 +7,8 @@ use lib.ListN.{length, getD, take, drop, length-drop}
 use lib.Seq.{length-take-le}
 use Rattle.record.specs.Choice.{if_then_else_}
 use Rattle.record.specs.Cursor.{behind}
-use Rattle.record.specs.Record.{decodeAt, sizeOf}
+use Rattle.record.specs.Frame.{frameAt}
+use Rattle.record.specs.Record.{sizeOf}
 use Rattle.record.specs.Number.{Bytes}
 use Rattle.record.specs.declared.record.Record.{Record}
 use Rattle.buffer.specs.Buffer.{put}
@@ -63,7 +64,7 @@ module _ {log marks old out : List ℕ} {end from at i : ℕ} (writing : Writing
       last : i ≡ length (writing .whole .records)
       last = omega (arith, writing .along .within, writing .whole .counted)
 
-  module _ (l : i < end) {next : ℕ} (e : next ≡ behind (decodeAt log from) from) where
+  module _ (l : i < end) {next : ℕ} (e : next ≡ behind (frameAt log from) from) where
     below : i < length (writing .whole .records)
     below = omega (arith, writing .whole .counted)
 

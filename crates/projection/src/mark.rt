@@ -8,8 +8,8 @@ use crate::keep::Marks;
 use history::owners::owner_of;
 use reader::format::HEADER;
 use reader::format::MAX_RECORDS;
-use record::cursor::read_at;
 use record::record::Decoded;
+use record::record::decode_at;
 
 // Marks the records of a readable log as their operations are marked.
 pub(crate) fn mark(log: &[u8], records: usize, kept: &Marks, marks: &mut Marks)
@@ -22,7 +22,7 @@ pub(crate) fn mark(log: &[u8], records: usize, kept: &Marks, marks: &mut Marks)
     let mut count = 0;
     let mut i = 0;
     while i < records {
-        match read_at(log, at) {
+        match decode_at(log, at) {
             // A readable log has a record here.
             Decoded::Malformed(_) => {
                 return;

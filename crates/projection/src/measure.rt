@@ -2,14 +2,14 @@
 ghost use mathlib.Core.Path.{_≡_};
 ghost use Prim.Native.Nat.{_≤_};
 ghost use Rattle.record.specs.Cursor.{behind};
-ghost use Rattle.record.specs.Record.{decodeAt};
+ghost use Rattle.record.specs.Frame.{frameAt};
 ghost use Rattle.history.specs.Table.{Whole};
 ghost use Rattle.projection.specs.Copies.{ifSet, Measured};
 use crate::keep::MARKED;
 use crate::keep::Marks;
 use reader::format::HEADER;
-use record::cursor::read_at;
-use record::record::Decoded;
+use record::cursor::read_frame;
+use record::frame::Frame;
 
 // How many records are marked, and how many bytes they take.
 pub struct Extent {
@@ -19,11 +19,11 @@ pub struct Extent {
 
 // Where the record at an offset ends.
 pub(crate) fn end_of(log: &[u8], at: usize) -> usize
-    ensures { λ r. ⌜ r ≡ behind (decodeAt (now (log .entry)) at) at ⌝ }
+    ensures { λ r. ⌜ r ≡ behind (frameAt (now (log .entry)) at) at ⌝ }
 {
-    match read_at(log, at) {
-        Decoded::Found { record: _, next } => next,
-        Decoded::Malformed(_) => at,
+    match read_frame(log, at) {
+        Frame::Framed(next) => next,
+        Frame::Cut(_) => at,
     }
 }
 

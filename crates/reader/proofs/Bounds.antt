@@ -9,7 +9,9 @@ use lib.Dec.{ltb, leb, eqb, lit≤}
 use borrow.Author.Tests.{ltb-true, ltb-false, eqb-false}
 use Rattle.record.specs.Choice.{if_then_else_}
 use Rattle.record.specs.Refusal.{maxRefusal}
-use Rattle.record.specs.Record.{lengthOf, recordAt, decodeAt}
+use Rattle.record.specs.Frame.{frameAt}
+use Rattle.record.specs.Record.{lengthOf, recordAt, decodeIn, decodeAt}
+use Rattle.record.specs.declared.frame.Frame.the-variants.{Framed, Cut}
 use Rattle.record.specs.declared.record.Event.{Event}
 use Rattle.record.specs.declared.record.Event.the-variants.{CallAdd, CallRemove, ReturnAdd, ReturnRemove}
 use Rattle.record.specs.declared.record.Record.{Record}
@@ -25,17 +27,19 @@ Numbered (Found r next) = Unit {0}
 Numbered (Malformed number) = (1 ≤ number) × (number ≤ maxRefusal)
 
 pub decode-numbered : (log : List ℕ) (at : ℕ) → Numbered (decodeAt log at)
-unfolding decodeAt
-decode-numbered log at =
-    go (leb (length log) at) (ltb (length log - (at + 1)) (getD log at 0)) (eqb (getD log at 0) 0) (eqb (lengthOf (getD log (at + 1) 0)) 0) (eqb (getD log at 0) (lengthOf (getD log (at + 1) 0)))
+unfolding decodeAt frameAt
+decode-numbered log at = frame (leb (length log) at) (ltb (length log - (at + 1)) (getD log at 0)) (eqb (getD log at 0) 0)
   where
-    go : (a b c d e : Bool) → Numbered (if a then Malformed 1 else if b then Malformed 1 else if c then Malformed 5 else if d then Malformed 4 else if not e then Malformed 5 else Found (recordAt log at) (at + 1 + getD log at 0))
-    go true b c d e = (lit≤ tt, lit≤ tt)
-    go false true c d e = (lit≤ tt, lit≤ tt)
-    go false false true d e = (lit≤ tt, lit≤ tt)
-    go false false false true e = (lit≤ tt, lit≤ tt)
-    go false false false false true = tt
-    go false false false false false = (lit≤ tt, lit≤ tt)
+    known : (d e : Bool) → Numbered (if d then Malformed 4 else if not e then Malformed 5 else Found (recordAt log at) (at + 1 + getD log at 0))
+    known true e = (lit≤ tt, lit≤ tt)
+    known false true = tt
+    known false false = (lit≤ tt, lit≤ tt)
+
+    frame : (a b c : Bool) → Numbered (decodeIn log at (if a then Cut 1 else if b then Cut 1 else if c then Cut 5 else Framed (at + 1 + getD log at 0)))
+    frame true b c = (lit≤ tt, lit≤ tt)
+    frame false true c = (lit≤ tt, lit≤ tt)
+    frame false false true = (lit≤ tt, lit≤ tt)
+    frame false false false = known (eqb (lengthOf (getD log (at + 1) 0)) 0) (eqb (getD log at 0) (lengthOf (getD log (at + 1) 0)))
 
 fault-numbered : (past : List Record) (r : Record) → fault past r ≤ maxRefusal
 unfolding fault eventFault

@@ -8,13 +8,17 @@ use mathlib.Core.Bool.{Bool, true, false, not}
 use mathlib.Core.List.{List, [], _∷_, _++_, reverse, reverse-cons, append-assoc, append-nil}
 use lib.ListN.{length, getD, take, drop, length-append, length-reverse, List·getD-append}
 use lib.Seq.{take-add, take-length, take-append-le, take-append-seam, take-append-add, drop-cons, drop-drop, getD-append-seam}
-use lib.Dec.{ltb, leb, eqb}
-use borrow.Author.Tests.{leb-false, ltb-false, eqb-true, eqb-false}
+use lib.Dec.{eqb}
+use borrow.Author.Tests.{eqb-true, eqb-false}
 use Rattle.record.specs.Choice.{if_then_else_}
 use Rattle.record.specs.Number.{bigEndian, bytesOf, Bytes}
-use Rattle.record.specs.Record.{kindOf, lengthOf, eventOf, encode, recordAt, decodeAt, sizeOf, valueIn, Small}
+use Rattle.record.specs.Frame.{frameAt, WholeFrame}
+use Rattle.record.specs.Record.{kindOf, lengthOf, eventOf, encode, recordAt, decodeIn, decodeAt, sizeOf, valueIn, Small}
+use Rattle.record.specs.declared.frame.Frame.{Frame}
+use Rattle.record.specs.declared.frame.Frame.the-variants.{Framed, Cut}
 use Rattle.record.specs.declared.record.Record.{Record}
 use Rattle.record.specs.declared.record.Decoded.the-variants.{Found, Malformed}
+use Rattle.record.proofs.Laws.{frame-inverts}
 use Rattle.record.proofs.Numbers.{number-back, number-small}
 use Rattle.record.proofs.Records.{kind-back, event-least, event-most, value-within, value-fills}
 use Rattle.reader.specs.Log.{logVersion, headerLength, maxRecords, maxLength, countField, encodeAll, encodeLog}
@@ -23,6 +27,7 @@ use Rattle.reader.proofs.Run.{Run, done, more, Read}
 
 -- a record stands at a position: its bytes are there, its fields are those bytes, and the next position is where it ends
 pub record Stood (log : List ℕ) (at : ℕ) (r : Record) (next : ℕ) : Type 0 where
+  pub framed : frameAt log at ≡ Framed next
   pub inside : at < length log
   pub fits : at + sizeOf r ≤ length log
   pub long : getD log at 0 ≡ lengthOf (kindOf (r .event))
@@ -35,8 +40,7 @@ pub record Stood (log : List ℕ) (at : ℕ) (r : Record) (next : ℕ) : Type 0 
 -- a record that is found stands there
 pub decode-inverts : (log : List ℕ) (at : ℕ) {r : Record} {next : ℕ} → decodeAt log at ≡ Found r next → Stood log at r next
 unfolding decodeAt
-decode-inverts log at {r} {next} e =
-    go (leb (length log) at) (ltb (length log - (at + 1)) (getD log at 0)) (eqb (getD log at 0) 0) (eqb (lengthOf kind) 0) (eqb (getD log at 0) (lengthOf kind)) refl refl refl refl e
+decode-inverts log at {r} {next} e = frame (frameAt log at) refl e
   where
     kind : ℕ
     kind = getD log (at + 1) 0
@@ -44,29 +48,30 @@ decode-inverts log at {r} {next} e =
     never : {number : ℕ} → Malformed number ≡ Found r next → Stood log at r next
     never e = let z : _≡_ {A = ℕ} 0 1 = cc in absurd (omega arith)
 
-    go : (a b c d e : Bool) → leb (length log) at ≡ a → ltb (length log - (at + 1)) (getD log at 0) ≡ b → eqb (lengthOf kind) 0 ≡ d → eqb (getD log at 0) (lengthOf kind) ≡ e
-        → (if a then Malformed 1 else if b then Malformed 1 else if c then Malformed 5 else if d then Malformed 4 else if not e then Malformed 5 else Found (recordAt log at) (at + 1 + getD log at 0)) ≡ Found r next
-        → Stood log at r next
-    go true b c d e ta tb td te f = never f
-    go false true c d e ta tb td te f = never f
-    go false false true d e ta tb td te f = never f
-    go false false false true e ta tb td te f = never f
-    go false false false false false ta tb td te f = never f
-    go false false false false true ta tb td te f =
+    known : (d e : Bool) {end : ℕ} → frameAt log at ≡ Framed end → WholeFrame log at end → eqb (lengthOf kind) 0 ≡ d → eqb (getD log at 0) (lengthOf kind) ≡ e
+        → (if d then Malformed 4 else if not e then Malformed 5 else Found (recordAt log at) end) ≡ Found r next → Stood log at r next
+    known true e framed whole td te f = never f
+    known false false framed whole td te f = never f
+    known false true {end} framed whole td te f =
         let is : r ≡ recordAt log at = cc in
-        let on : next ≡ at + 1 + getD log at 0 = cc in
+        let on : next ≡ end = cc in
         let same : kindOf (r .event) ≡ kind = ap (λ (r : Record). kindOf (r .event)) is ∙ kind-back kind (bigEndian log (at + 8) 4) (eqb-false (lengthOf kind) 0 td) in
         let long : getD log at 0 ≡ lengthOf (kindOf (r .event)) = eqb-true (getD log at 0) (lengthOf kind) te ∙ ap lengthOf (sym same) in
         record {
-          inside = leb-false (length log) at ta;
-          fits = omega (arith, leb-false (length log) at ta, ltb-false (length log - (at + 1)) (getD log at 0) tb);
+          framed = rw on framed;
+          inside = omega (arith, whole .some, whole .there);
+          fits = omega (arith, whole .ends, whole .there);
           long = long;
           kind = sym same;
           client = ap (λ (r : Record). r .client) is;
           tick = ap (λ (r : Record). r .tick) is;
           event = rw same (ap (λ (r : Record). r .event) is);
-          ends = omega arith;
+          ends = omega (arith, whole .ends);
         }
+
+    frame : (f : Frame) → frameAt log at ≡ f → decodeIn log at f ≡ Found r next → Stood log at r next
+    frame (Cut number) is e = never e
+    frame (Framed end) is e = known (eqb (lengthOf kind) 0) (eqb (getD log at 0) (lengthOf kind)) is (frame-inverts log at refl is) refl refl e
 
 -- a byte and the part behind it are one part
 ahead : (log : List ℕ) (at next n size : ℕ) → at < length log → next ≡ suc at → size ≡ suc n → getD log at 0 ∷ take n (drop next log) ≡ take size (drop at log)

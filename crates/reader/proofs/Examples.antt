@@ -3,6 +3,7 @@ use Prim.Native.Nat.{ℕ}
 use mathlib.Core.Path.{_≡_, refl}
 use mathlib.Core.List.{List, [], _∷_}
 use Rattle.record.specs.Number.{bigEndian, bytesOf}
+use Rattle.record.specs.Frame.{frameAt}
 use Rattle.record.specs.Record.{lengthOf, eventOf, encode, decodeAt}
 use Rattle.record.specs.declared.record.Removed.the-variants.{Value, Empty}
 use Rattle.record.specs.declared.record.Event.the-variants.{CallRemove, ReturnRemove}
@@ -73,7 +74,7 @@ examples =
 
 -- every example is answered as it should be
 pub examples-hold : Hold readLog examples
-unfolding bigEndian lengthOf eventOf decodeAt ofOthers pendingCalls pendingKind earliestRemove addedValues isIn eventFault fault scan readPartial operations
+unfolding bigEndian lengthOf eventOf frameAt decodeAt ofOthers pendingCalls pendingKind earliestRemove addedValues isIn eventFault fault scan readPartial operations
 examples-hold = (refl, (refl, (refl, (refl, (refl, (refl, (refl, (refl, (refl, (refl, (refl, (refl, (refl, (refl, (refl, (refl, (refl, (refl, (refl, (refl, (refl, (refl, (refl, tt)))))))))))))))))))))))
 
 abbrev pub partial-examples : List Example
@@ -86,12 +87,12 @@ partial-examples =
 
 -- and so is a log but for 10
 pub partial-examples-hold : Hold readPartial partial-examples
-unfolding bigEndian lengthOf eventOf decodeAt ofOthers pendingCalls pendingKind addedValues isIn eventFault fault scan readPartial operations
+unfolding bigEndian lengthOf eventOf frameAt decodeAt ofOthers pendingCalls pendingKind addedValues isIn eventFault fault scan readPartial operations
 partial-examples-hold = (refl, (refl, tt))
 
 -- a remove's return with value 0, by client 258 at tick 259
 pub decodes-fields : decodeAt (11 ∷ 4 ∷ 1 ∷ 2 ∷ 0 ∷ 0 ∷ 1 ∷ 3 ∷ 0 ∷ 0 ∷ 0 ∷ 0 ∷ []) 0 ≡ Found (record { client = 258; tick = 259; event = ReturnRemove (Value 0) }) 12
-unfolding bigEndian lengthOf eventOf decodeAt
+unfolding bigEndian lengthOf eventOf frameAt decodeAt
 decodes-fields = refl
 
 -- an empty remove, call and return, as a log

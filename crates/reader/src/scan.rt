@@ -16,10 +16,10 @@ use crate::pending::begin_call;
 use crate::pending::earliest_remove;
 use crate::pending::end_call;
 use crate::pending::pending_kind;
-use record::cursor::read_at;
 use record::record::Decoded;
 use record::record::Event;
 use record::record::Record;
+use record::record::decode_at;
 use record::refusal::ADDED_TWICE;
 use record::refusal::CLIENT_BUSY;
 use record::refusal::NO_SUCH_CALL;
@@ -176,7 +176,7 @@ fn read_record(
     ensures { λ s. ⌜ Stepped (now (log .entry)) index p (now (clients .entry)) (now (codes .entry)) (now (values .entry)) s (now (clients .exit)) (now (codes .exit)) (now (values .exit)) ⌝ }
 {
     let at = p.at;
-    match read_at(log, at) {
+    match decode_at(log, at) {
         Decoded::Malformed(number) => Step::Stop(number),
         Decoded::Found { record, next } => {
             let number = fault(record, p, clients, codes, values);
@@ -260,7 +260,7 @@ fn fault_behind(bytes: &[u8], p: Progress, clients: &Table, codes: &Table, value
     if bytes.len() - 1 != bytes[0] as usize {
         return WRONG_BYTES;
     }
-    match read_at(bytes, 0) {
+    match decode_at(bytes, 0) {
         Decoded::Malformed(number) => number,
         Decoded::Found { record, next: _ } => fault(record, p, clients, codes, values),
     }

@@ -1,5 +1,6 @@
 pub mod Choice
 pub mod Number
 pub mod Refusal
+pub mod Frame
 pub mod Record
 pub mod Cursor

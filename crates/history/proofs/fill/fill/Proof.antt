@@ -16,14 +16,14 @@ abbrev μ-loop : tie.MeasureT-loop
 loop-holds : tie.Need-loop-holds Inv-loop μ-loop
 loop-holds c = reached-start (c .before .pre .0) _ (c .before .pre .1)
 
-read-at-requires : tie.Need-read-at-requires Inv-loop μ-loop
-read-at-requires c κs = search needs
+decode-at-requires : tie.Need-decode-at-requires Inv-loop μ-loop
+decode-at-requires c κs = search needs
 
 enum-told : tie.Need-enum-told Inv-loop μ-loop
 enum-told c = search needs
 
 returns : tie.Need-returns Inv-loop μ-loop
-returns c = absurd (reached-found (c .before .before .before .before .loop .inv) (c .before .before .before .loop-test .taken) (c .before .before .read-at .ensures) (c .enum-told .given .1))
+returns c = absurd (reached-found (c .before .before .before .before .loop .inv) (c .before .before .before .loop-test .taken) (c .before .before .decode-at .ensures) (c .enum-told .given .1))
 
 enum-known-record : tie.Need-enum-known-record Inv-loop μ-loop
 enum-known-record c = search needs
@@ -38,7 +38,7 @@ loop-less : tie.Need-loop-less Inv-loop μ-loop
 loop-less c = omega arith
 
 loop-again : tie.Need-loop-again Inv-loop μ-loop
-loop-again c = reached-next (c .before .before .before .before .before .before .before .before .before .loop .inv) (c .before .before .before .before .before .before .before .before .loop-test .taken) (c .before .before .before .before .before .before .before .read-at .ensures) (c .before .before .before .before .before .record .given .1) (c .note .ensures)
+loop-again c = reached-next (c .before .before .before .before .before .before .before .before .before .loop .inv) (c .before .before .before .before .before .before .before .before .loop-test .taken) (c .before .before .before .before .before .before .before .decode-at .ensures) (c .before .before .before .before .before .record .given .1) (c .note .ensures)
 
 returns-2 : tie.Need-returns-2 Inv-loop μ-loop
 returns-2 c = reached-end (c .before .loop .inv) (c .loop-test .left)
@@ -50,7 +50,7 @@ fill-spec =
     Inv-loop
     μ-loop
     loop-holds
-    read-at-requires
+    decode-at-requires
     enum-told
     returns
     enum-known-record

@@ -21,8 +21,8 @@ cast-if2 c = omega (arith, c .shared-slice-known2 .given 0)
 returns-2 : tie.Need-returns-2
 returns-2 c = behind-other (λ e. c .if2 .taken (omega (arith, c .before .before .if1 .left)))
 
-read-at-requires : tie.Need-read-at-requires
-read-at-requires c κs = search needs
+decode-at-requires : tie.Need-decode-at-requires
+decode-at-requires c κs = search needs
 
 enum-known-number : tie.Need-enum-known-number
 enum-known-number c = search needs
@@ -34,10 +34,10 @@ fault-requires : tie.Need-fault-requires
 fault-requires c κs = search needs
 
 returns-3 : tie.Need-returns-3
-returns-3 c = behind-malformed (omega (arith, c .before .before .before .before .if2 .left, c .before .before .before .before .before .before .if1 .left)) (sym (c .before .before .before .read-at .ensures) ∙ c .before .number .given .1)
+returns-3 c = behind-malformed (omega (arith, c .before .before .before .before .if2 .left, c .before .before .before .before .before .before .if1 .left)) (sym (c .before .before .before .decode-at .ensures) ∙ c .before .number .given .1)
 
 returns-4 : tie.Need-returns-4
-returns-4 c = behind-fault (omega (arith, c .before .before .before .before .before .if2 .left, c .before .before .before .before .before .before .before .if1 .left)) (sym (c .before .before .before .before .read-at .ensures) ∙ c .before .before .«record» .given .1) (c .fault .ensures)
+returns-4 c = behind-fault (omega (arith, c .before .before .before .before .before .if2 .left, c .before .before .before .before .before .before .before .if1 .left)) (sym (c .before .before .before .before .decode-at .ensures) ∙ c .before .before .«record» .given .1) (c .fault .ensures)
 
 pub fault-behind-spec : {M : Type 1} → statement M
 fault-behind-spec =
@@ -48,7 +48,7 @@ fault-behind-spec =
     shared-slice-read-if2
     cast-if2
     returns-2
-    read-at-requires
+    decode-at-requires
     enum-known-number
     enum-known-record
     fault-requires

@@ -5,8 +5,8 @@ use borrow.Author.Needs.{needs}
 use Rattle.reader.proofs.scan.read_record.Statement.{statement}
 use Rattle.reader.proofs.scan.read_record.Tie as tie
 
-read-at-requires : tie.Need-read-at-requires
-read-at-requires c κs = search needs
+decode-at-requires : tie.Need-decode-at-requires
+decode-at-requires c κs = search needs
 
 enum-known-number : tie.Need-enum-known-number
 enum-known-number c = search needs
@@ -18,22 +18,22 @@ fault-requires : tie.Need-fault-requires
 fault-requires c κs = search needs
 
 returns : tie.Need-returns
-returns c = stops-fault (sym (c .before .before .before .before .before .before .before .before .read-at .ensures) ∙ c .before .before .before .before .before .before .«record» .given .1) (c .before .fault .ensures) (c .if1 .taken)
+returns c = stops-fault (sym (c .before .before .before .before .before .before .before .before .decode-at .ensures) ∙ c .before .before .before .before .before .before .«record» .given .1) (c .before .fault .ensures) (c .if1 .taken)
 
 admit-requires : tie.Need-admit-requires
 admit-requires c κs = search needs
 
 returns-2 : tie.Need-returns-2
-returns-2 c = stops-malformed (sym (c .before .before .before .read-at .ensures) ∙ c .before .number .given .1)
+returns-2 c = stops-malformed (sym (c .before .before .before .decode-at .ensures) ∙ c .before .number .given .1)
 
 returns-3 : tie.Need-returns-3
-returns-3 c = goes-on (sym (c .before .before .before .before .before .before .before .before .before .before .before .before .read-at .ensures) ∙ c .before .before .before .before .before .before .before .before .before .before .«record» .given .1) (c .before .before .before .before .before .fault .ensures) (c .before .before .before .before .if1 .left) (c .admit .ensures)
+returns-3 c = goes-on (sym (c .before .before .before .before .before .before .before .before .before .before .before .before .decode-at .ensures) ∙ c .before .before .before .before .before .before .before .before .before .before .«record» .given .1) (c .before .before .before .before .before .fault .ensures) (c .before .before .before .before .if1 .left) (c .admit .ensures)
 
 pub read-record-spec : {M : Type 1} → statement M
 read-record-spec =
     tie.close
     (tie.spec
-    read-at-requires
+    decode-at-requires
     enum-known-number
     enum-known-record
     fault-requires

@@ -41,17 +41,17 @@ use denote.Triple.Spec.{Meets, tripleOf}
 use denote.Triple.Table.{entered, cited}
 use denote.Triple.Walked.{says, Stays, stay-ref, walkOf, goes-ref, Walks, ends-at, walked, walk-meets}
 use Rattle.record.specs.Cursor.{behind}
-use Rattle.record.specs.Record.{decodeAt}
+use Rattle.record.specs.Frame.{frameAt}
 use Rattle.record.specs.declared.cursor.Advance.{Advance}
 use Rattle.record.specs.declared.cursor.Reader.{Reader}
-use Rattle.record.specs.declared.record.Decoded.{Decoded}
+use Rattle.record.specs.declared.frame.Frame.{Frame}
 use Rattle.record.proofs.cursor.Reader as T
 use Rattle.record.proofs.cursor.Reader.Laws as T′
 use Rattle.record.proofs.cursor.Advance as S
 use Rattle.record.proofs.cursor.Advance.Laws as S′
 use Rattle.record.proofs.Readers.{passed, Own, Parts, apart}
-use Rattle.record.proofs.record.Decoded as D
-use Rattle.record.proofs.record.Decoded.Laws as D′
+use Rattle.record.proofs.frame.Frame as D
+use Rattle.record.proofs.frame.Frame.Laws as D′
 use Rattle.record.proofs.cursor.step_at as step-at
 use Rattle.record.proofs.cursor.step_at.Symbol as step-at-def
 use Rattle.record.proofs.cursor.step_at.Symbol.{name as #step-at}
@@ -94,13 +94,13 @@ module _ {M : Type 1} (𝓤 : URA M) (H : Heap 𝓤) (A : Atoms 𝓤) (W : Given
   mach n = T′.lowered (moved n)
 
   abbrev answer : Advance → Val
-  answer r = EL.val D.the-type D′.the-laws (r .decoded)
+  answer r = EL.val D.the-type D′.the-laws (r .frame)
 
   abbrev returned : Advance → Val
   returned r = vstruct (vcons (answer r) (vcons (vint w64 (r .at)) vnil))
 
-  abbrev found : Decoded
-  found = decodeAt (now (h .log)) (h .at)
+  abbrev found : Frame
+  found = frameAt (now (h .log)) (h .at)
 
   abbrev Entry : SProp 𝓤
   Entry = onEntry 𝓤 H A next.signature (κ, (κ′, tt)) (q, (q′, tt)) x vals
@@ -120,7 +120,7 @@ module _ {M : Type 1} (𝓤 : URA M) (H : Heap 𝓤) (A : Atoms 𝓤) (W : Given
 
   -- what the callee's contract says of what it returns; it has no `&mut`, so there are no last values
   abbrev Stepped : Advance → Type 0
-  Stepped r = (r .decoded ≡ found) × (r .at ≡ behind found (h .at))
+  Stepped r = (r .frame ≡ found) × (r .at ≡ behind found (h .at))
 
   said : (r : Advance) → ent 𝓤 (ensured 𝓤 H A step-at.ended (step-at.clauses 𝓤 H A at-mem run) (κ′, tt) (h .log, (h .at, tt)) tt r) (fact 𝓤 (Stepped r))
   said r = exE 𝓤 _ (λ ws. snd∗ 𝓤 (sem 𝓤 H A (lasts step-at.ended (κ′, tt) (h .log, (h .at, tt)) ws)) (fact 𝓤 (Stepped r)))
@@ -130,10 +130,10 @@ module _ {M : Type 1} (𝓤 : URA M) (H : Heap 𝓤) (A : Atoms 𝓤) (W : Given
   again n fits = qed W (‵ (Own α h) ∷ []) ∵ owned ! usize (Is usize) (uint-makes 𝓤 H A W w64) n _ (refl, fits) $ move ! (1 ∷ 0 ∷ []) $ by ! (own-put 𝓤 H A W (T.the-type α) (T′.the-laws α) 1 (h .log, (h .at, tt)) n (mach (h .at)))
 
   exits : (r : Advance) → Stepped r
-      → ent 𝓤 (⋆ 𝓤 H A (‵ (fobs γ (R κ′ .coded .code (moved (r .at)))) ∷ ‵ (fbor κ (Body (mem (R κ′)) b o γ)) ∷ ‵ (flft κ q) ∷ ‵ (D.the-row .own (r .decoded) (answer r ∷ [])) ∷ (‵ (flft κ′ q′) ⊛ ‵ ftrue) ∷ [])) (Post (answer r))
+      → ent 𝓤 (⋆ 𝓤 H A (‵ (fobs γ (R κ′ .coded .code (moved (r .at)))) ∷ ‵ (fbor κ (Body (mem (R κ′)) b o γ)) ∷ ‵ (flft κ q) ∷ ‵ (D.the-row .own (r .frame) (answer r ∷ [])) ∷ (‵ (flft κ′ q′) ⊛ ‵ ftrue) ∷ [])) (Post (answer r))
   exits r e =
-      qed W (‵ (fobs γ (R κ′ .coded .code (moved (r .at)))) ∷ ‵ (fbor κ (Body (mem (R κ′)) b o γ)) ∷ ‵ (flft κ q) ∷ ‵ (D.the-row .own (r .decoded) (answer r ∷ [])) ∷ (‵ (flft κ′ q′) ⊛ ‵ ftrue) ∷ []) ∵
-      suffices ! _ (ends-at 𝓤 H A next.ended stayed (next.clauses 𝓤 H A at-mem run) W (((κ, (κ′, tt)), (q, (q′, tt)), bounds, x, vals), tt) (answer r) (r .decoded) (moved (r .at), tt) (tt, tt)) $
+      qed W (‵ (fobs γ (R κ′ .coded .code (moved (r .at)))) ∷ ‵ (fbor κ (Body (mem (R κ′)) b o γ)) ∷ ‵ (flft κ q) ∷ ‵ (D.the-row .own (r .frame) (answer r ∷ [])) ∷ (‵ (flft κ′ q′) ⊛ ‵ ftrue) ∷ []) ∵
+      suffices ! _ (ends-at 𝓤 H A next.ended stayed (next.clauses 𝓤 H A at-mem run) W (((κ, (κ′, tt)), (q, (q′, tt)), bounds, x, vals), tt) (answer r) (r .frame) (moved (r .at), tt) (tt, tt)) $
       says ! (e .0, refl, e .1 ∙ ap (λ d. behind d (h .at)) (sym (e .0))) $ move ! (2 ∷ 4 ∷ []) $ join ! $ frame ! $
       -- [obs; the borrow; the answer]: the first two are the parameter's
       feqI ! (List Val) (vptr b o ∷ []) (vptr b o ∷ []) refl $ fjoin3 ! $ nothing ! $ move ! (1 ∷ 0 ∷ []) $ fjoin ! $ frame ! $ done !
@@ -165,10 +165,10 @@ module _ {M : Type 1} (𝓤 : URA M) (H : Heap 𝓤) (A : Atoms 𝓤) (W : Given
         split ! $ move ! (1 ∷ []) $ use1 W (raw (fact 𝓤 (Stepped r))) (said r) $ heard ! (Stepped r) (λ e. split ! $ move ! (1 ∷ []) $
         -- [what is returned; 'a's token; what the struct owns; its cell; the open borrow; obs; auth; true; _4; …; _3; …; room for _2; …; _1; …; room for _0; …]: _2 is written, and its value taken apart
         peeks ! S.the-row (Is S.the-row) (shows 𝓤 H A S.the-row) r (u ∷ []) (λ is. land ! (from ! (stop !)) (init ! 12 refl (LL.lawful S.the-type S′.the-laws 𝓤 H A W .typed r _ is .0)) $
-        use1 W (given (u ∷ [] ≡ returned r ∷ []) (‵ (all-own (S.the-type .parts) S′.the-laws (r .decoded, (r .at, tt))))) (own-open 𝓤 H A W S.the-type S′.the-laws (r .decoded, (r .at, tt)) u) $ learn ! (λ same.
+        use1 W (given (u ∷ [] ≡ returned r ∷ []) (‵ (all-own (S.the-type .parts) S′.the-laws (r .frame, (r .at, tt))))) (own-open 𝓤 H A W S.the-type S′.the-laws (r .frame, (r .at, tt)) u) $ learn ! (λ same.
         rewrite ! 12 (λ (w : Val). ‵ (fat fullShare S′.mir l₂ 0 w)) (ap only same) refl $
         assigns ! (of-opd ! (load ! (from ! (fld ! refl (stop !))) (look-in ! 12 (sub ! 1 refl (whole !))))) (from ! (hop ! (look ! 14 refl) (fld ! refl (stop !)))) (store-in ! 3 (sub ! 1 refl (whole !)) (tt, record { fits = at-fits r u is })) $
-        assigns ! (of-opd ! (load ! (from ! (fld ! refl (stop !))) (look-in ! 12 (sub ! 0 refl (whole !))))) (from ! (stop !)) (init ! 16 refl (EL.lawful D.the-type D′.the-laws 𝓤 H A W tt .typed (r .decoded) _ (LL.owed S.the-type S′.the-laws r _ is .0) .0)) $
+        assigns ! (of-opd ! (load ! (from ! (fld ! refl (stop !))) (look-in ! 12 (sub ! 0 refl (whole !))))) (from ! (stop !)) (init ! 16 refl (EL.lawful D.the-type D′.the-laws 𝓤 H A W tt .typed (r .frame) _ (LL.owed S.the-type S′.the-laws r _ is .0) .0)) $
         -- [the answer; the number; 'a's token; what the struct owns; its cell; the open borrow; obs; auth; true; _4; …; _3; …; _2; …; _1; …; _0; …]: the borrow is closed
         fsplit ! $ move ! (3 ∷ []) $ use1 W (‵ (Own α (moved (r .at)))) (again (r .at) (at-fits r u is)) $
         move ! (4 ∷ []) $ use1 W (‵ (cellAt fullShare (R κ′ .mir) (mach (r .at) ∷ []) b o)) (W .laws .at-raw fullShare (T′.mir erased) b o (mach (r .at))) $

@@ -1,4 +1,4 @@
--- `record::cursor::read_at` meets its contract: a walk of its MIR, by hand. `reader_at` is called, its result is stored in a local, the local is lent to `next` as a `&mut`, and taken back.
+-- `record::cursor::read_frame` meets its contract: a walk of its MIR, by hand. `reader_at` is called, its result is stored in a local, the local is lent to `next` as a `&mut`, and taken back.
 -- `next` asks that the struct's lifetime outlive the loan's. So the loan's is a new lifetime within the struct's, and half of the struct's token goes into its token (`lends`).
 -- After the call the new lifetime is ended, which gives back the local's room and the whole token (`back`).
 use mathlib.Core.Path.{_≡_, refl, ap, _∙_}
@@ -46,13 +46,13 @@ use denote.Triple.Table.{entered, cited}
 use denote.Triple.Walked.{says, Stays, stay-none, stay-none-slice, walkOf, goes-none, goes-none-slice, ends-at, walked, walk-meets}
 use denote.Exit.{yes}
 use Rattle.record.specs.Cursor.{behind}
-use Rattle.record.specs.Record.{decodeAt}
+use Rattle.record.specs.Frame.{frameAt}
 use Rattle.record.specs.declared.cursor.Reader.{Reader}
-use Rattle.record.specs.declared.record.Decoded.{Decoded}
+use Rattle.record.specs.declared.frame.Frame.{Frame}
 use Rattle.record.proofs.cursor.Reader as T
 use Rattle.record.proofs.cursor.Reader.Laws as T′
-use Rattle.record.proofs.record.Decoded as D
-use Rattle.record.proofs.record.Decoded.Laws as D′
+use Rattle.record.proofs.frame.Frame as D
+use Rattle.record.proofs.frame.Frame.Laws as D′
 use Rattle.record.proofs.cursor.reader_at as reader-at
 use Rattle.record.proofs.cursor.reader_at.Symbol as reader-at-def
 use Rattle.record.proofs.cursor.reader_at.Symbol.{name as #reader-at}
@@ -61,12 +61,12 @@ use Rattle.record.proofs.cursor.next as next
 use Rattle.record.proofs.cursor.next.Symbol as next-def
 use Rattle.record.proofs.cursor.next.Symbol.{name as #next}
 use Rattle.record.proofs.cursor.next.Met as next-thm
-use Rattle.record.proofs.cursor.read_at.Key.{name as #read-at}
-use Rattle.record.proofs.cursor.read_at as read-at
-use Rattle.record.proofs.cursor.read_at.Statement as stated
-use Rattle.record.proofs.cursor.read_at.Code as code
+use Rattle.record.proofs.cursor.read_frame.Key.{name as #read-frame}
+use Rattle.record.proofs.cursor.read_frame as read-frame
+use Rattle.record.proofs.cursor.read_frame.Statement as stated
+use Rattle.record.proofs.cursor.read_frame.Code as code
 
-abbrev stayed : Stays (read-at.ended .signature .params) (read-at.ended .kept)
+abbrev stayed : Stays (read-frame.ended .signature .params) (read-frame.ended .kept)
 stayed = (stay-none-slice (0 ∷ []) tt (plain (λ _. u8)) yes, (stay-none (λ _. usize) yes, tt))
 
 -- what the two callees promise
@@ -82,14 +82,14 @@ module _ {M : Type 1} (𝓤 : URA M) (H : Heap 𝓤) (A : Atoms 𝓤) (W : Given
   abbrev v : Val
   v = sliceVal (s .ptr) (length (s .now))
 
-  abbrev vals : Vals read-at.signature (κ, tt)
+  abbrev vals : Vals read-frame.signature (κ, tt)
   vals = (v ∷ [], (vint w64 n ∷ [], tt))
 
   abbrev Entry : SProp 𝓤
-  Entry = onEntry 𝓤 H A read-at.signature (κ, tt) (q, tt) (s, (n, tt)) vals
+  Entry = onEntry 𝓤 H A read-frame.signature (κ, tt) (q, tt) (s, (n, tt)) vals
 
   abbrev Post : Val → SProp 𝓤
-  Post = walkOf 𝓤 H A read-at.ended stayed (read-at.clauses 𝓤 H A at-mem run) .post (((κ, tt), (q, tt), tt, (s, (n, tt)), vals), tt)
+  Post = walkOf 𝓤 H A read-frame.ended stayed (read-frame.clauses 𝓤 H A at-mem run) .post (((κ, tt), (q, tt), tt, (s, (n, tt)), vals), tt)
 
   abbrev Own : Fml
   Own = ShrSlice (named 0) κ u8 .own s (v ∷ [])
@@ -131,8 +131,8 @@ module _ {M : Type 1} (𝓤 : URA M) (H : Heap 𝓤) (A : Atoms 𝓤) (W : Given
     to-next r = (((p .0 ∷ κ, (κ, tt)), (PosShare·left q, (PosShare·right q, tt)), (meet-⊑-right (p .0 ∷ []) κ, tt), x r, (vptr l 0 ∷ [], tt)), tt)
 
   -- what its contract says of its answer d and of the struct's last value y
-  abbrev Stands : Reader → Decoded → Reader → Type 0
-  Stands r d y = (d ≡ decodeAt (now (r .log)) (r .at)) × (y .log ≡ r .log) × (y .at ≡ behind d (r .at))
+  abbrev Stands : Reader → Frame → Reader → Type 0
+  Stands r d y = (d ≡ frameAt (now (r .log)) (r .at)) × (y .log ≡ r .log) × (y .at ≡ behind d (r .at))
 
   -- the local and what its struct owns are lent, with half of the token in the loan's: it is what `next` asks, beside what is kept
   lends : (r : Reader) (u : Val) (l : ℕ) → ent 𝓤 (⋆ 𝓤 H A (‵ (fat fullShare (T′.mir erased) l 0 u) ∷ ‵ (R .own r (u ∷ [])) ∷ (‵ (flft κ q) ⊛ ‵ ftrue) ∷ []))
@@ -163,10 +163,10 @@ module _ {M : Type 1} (𝓤 : URA M) (H : Heap 𝓤) (A : Atoms 𝓤) (W : Given
       use1 W (‵ (fat fullShare (T′.mir erased) l 0 (T′.lowered y))) (W .laws .raw-at fullShare (T′.mir erased) l 0 (T′.lowered y)) $ forget ! 0 refl $
       move ! (2 ∷ 3 ∷ []) $ use2 W (‵ (flft κ q)) (W .lfts .lft-join κ q) $ at-once ! $ move ! (0 ∷ 3 ∷ []) $ join ! $ keep ! (1 ∷ 0 ∷ []) $ done !)
 
-  exits : (d : Decoded) (u : Val) → d ≡ decodeAt (now s) n → ent 𝓤 (⋆ 𝓤 H A (‵ (D.the-row .own d (u ∷ [])) ∷ (‵ (flft κ q) ⊛ ‵ ftrue) ∷ ‵ Own ∷ [])) (Post u)
+  exits : (d : Frame) (u : Val) → d ≡ frameAt (now s) n → ent 𝓤 (⋆ 𝓤 H A (‵ (D.the-row .own d (u ∷ [])) ∷ (‵ (flft κ q) ⊛ ‵ ftrue) ∷ ‵ Own ∷ [])) (Post u)
   exits d u e =
       qed W (‵ (D.the-row .own d (u ∷ [])) ∷ (‵ (flft κ q) ⊛ ‵ ftrue) ∷ ‵ Own ∷ []) ∵
-      suffices ! _ (ends-at 𝓤 H A read-at.ended stayed (read-at.clauses 𝓤 H A at-mem run) W (((κ, tt), (q, tt), tt, (s, (n, tt)), vals), tt) u d (tt, (tt, tt)) (tt, (tt, tt))) $ says ! e $
+      suffices ! _ (ends-at 𝓤 H A read-frame.ended stayed (read-frame.clauses 𝓤 H A at-mem run) W (((κ, tt), (q, tt), tt, (s, (n, tt)), vals), tt) u d (tt, (tt, tt)) (tt, (tt, tt))) $ says ! e $
       -- [the answer; the token; what log owns]: the number's fact is made anew
       move ! (1 ∷ []) $ frame ! $ nothing ! $ owned ! usize (Is usize) (uint-makes 𝓤 H A W w64) n _ (refl, n-fits) $ fjoin ! $ move ! (2 ∷ 0 ∷ []) $ fjoin ! $ frame ! $ done !
 
@@ -188,7 +188,7 @@ module _ {M : Type 1} (𝓤 : URA M) (H : Heap 𝓤) (A : Atoms 𝓤) (W : Given
         -- [_3; what the struct owns; the token; what log owns; _5; …; _4; …; … of _3; _2; …; _1; …; room for _0; …]: _3 is lent, and `next` is called
         move ! (7 ∷ 0 ∷ 1 ∷ []) $ use3 W (later (some (λ (p : ℕ × GName). raw (Next 𝓤 H A at-mem run .pre (to-next l₃ p r)) ⊛ Keeps l₃ p))) (lends r u l₃) $ await ! tt $ pick ! (λ p. split ! $
         calls-at ! fm (Next 𝓤 H A at-mem run) known-next (to-next l₃ p r) (and-then ! (load ! (from ! (stop !)) (look ! 3 refl)) (no-more !)) (λ w.
-        use1 W (later (some (λ (d : Decoded). (Toks l₃ p ⊛ ‵ (D.the-row .own d (w ∷ []))) ⊛ raw (ensured 𝓤 H A next.ended (next.clauses 𝓤 H A at-mem run) (p .0 ∷ κ, (κ, tt)) (x l₃ p r) tt d)))) (id⊢ 𝓤 _) $ await ! tt $ pick ! (λ d.
+        use1 W (later (some (λ (d : Frame). (Toks l₃ p ⊛ ‵ (D.the-row .own d (w ∷ []))) ⊛ raw (ensured 𝓤 H A next.ended (next.clauses 𝓤 H A at-mem run) (p .0 ∷ κ, (κ, tt)) (x l₃ p r) tt d)))) (id⊢ 𝓤 _) $ await ! tt $ pick ! (λ d.
         split ! $ move ! (1 ∷ []) $ use1 W (some (λ (ys : Reader × Unit {0}). ‵ (lasts next.ended (p .0 ∷ κ, (κ, tt)) (x l₃ p r) ys) ⊛ raw (fact 𝓤 (Stands r d (ys .0))))) (id⊢ 𝓤 _) $ pick ! (λ ys.
         split ! $ move ! (1 ∷ []) $ heard ! (Stands r d (ys .0)) (λ e′. fsplit ! $ move ! (2 ∷ []) $ split ! $
         -- [the tokens; the answer; the last value; true; what is kept; what log owns; _5; …; _4; …; … of _3; _2; …; _1; …; room for _0; …]: _3 is taken back
@@ -197,21 +197,21 @@ module _ {M : Type 1} (𝓤 : URA M) (H : Heap 𝓤) (A : Atoms 𝓤) (W : Given
         peeks ! D.the-row (Is D.the-row) (shows 𝓤 H A D.the-row) d (w ∷ []) (λ is. land ! (from ! (stop !)) (init ! 14 refl (EL.lawful D.the-type D′.the-laws 𝓤 H A W tt .typed d _ is .0)) $
         returns ! (look ! 14 refl) $ forget ! 5 refl $ forget ! 7 refl $ forget ! 10 refl $ forget ! 12 refl $ forget ! 14 refl $
         move ! (14 ∷ 15 ∷ []) $ free1 ! $ move ! (12 ∷ 13 ∷ []) $ free1 ! $ move ! (10 ∷ 11 ∷ []) $ free1 ! $ move ! (3 ∷ 9 ∷ []) $ free1 ! $ move ! (6 ∷ 7 ∷ []) $ free1 ! $ move ! (4 ∷ 5 ∷ []) $ free1 ! $ free0 ! $
-        keep ! (0 ∷ 1 ∷ 2 ∷ []) $ by ! (exits d w (e′ .0 ∙ (ap (λ (z : RefT (List ℕ)). decodeAt (now z) (r .at)) (e .0) ∙ ap (decodeAt (now s)) (e .1))))))))))))))))))))
+        keep ! (0 ∷ 1 ∷ 2 ∷ []) $ by ! (exits d w (e′ .0 ∙ (ap (λ (z : RefT (List ℕ)). frameAt (now z) (r .at)) (e .0) ∙ ap (frameAt (now s)) (e .1))))))))))))))))))))
 
-read-at-meets : {M : Type 1} (𝓤 : URA M) (H : Heap 𝓤) (A : Atoms 𝓤) (W : Given 𝓤 H A) (mem : Memory → SProp 𝓤) (run : Routine → Fun 𝓤) (𝓣 : Tables 𝓤 H)
-    → Triple 𝓤 (𝓣 .C #reader-at) (ReaderAt 𝓤 H A mem run) → Triple 𝓤 (𝓣 .C #next) (Next 𝓤 H A mem run) → Meets 𝓤 H A read-at.signature (WpFn 𝓤 H (𝓣 .C) (𝓣 .Λ) code.function) (read-at.spec 𝓤 H A mem run)
-read-at-meets 𝓤 H A W mem run 𝓣 known-reader-at known-next =
-    walk-meets 𝓤 H A read-at.ended stayed W (goes-none-slice 𝓤 H A W 1 (0 ∷ []) tt (plain (λ _. u8)) yes, (goes-none 𝓤 H A W 1 (λ _. usize) yes (λ κs x f. refl), tt)) (read-at.clauses 𝓤 H A mem run)
+read-frame-meets : {M : Type 1} (𝓤 : URA M) (H : Heap 𝓤) (A : Atoms 𝓤) (W : Given 𝓤 H A) (mem : Memory → SProp 𝓤) (run : Routine → Fun 𝓤) (𝓣 : Tables 𝓤 H)
+    → Triple 𝓤 (𝓣 .C #reader-at) (ReaderAt 𝓤 H A mem run) → Triple 𝓤 (𝓣 .C #next) (Next 𝓤 H A mem run) → Meets 𝓤 H A read-frame.signature (WpFn 𝓤 H (𝓣 .C) (𝓣 .Λ) code.function) (read-frame.spec 𝓤 H A mem run)
+read-frame-meets 𝓤 H A W mem run 𝓣 known-reader-at known-next =
+    walk-meets 𝓤 H A read-frame.ended stayed W (goes-none-slice 𝓤 H A W 1 (0 ∷ []) tt (plain (λ _. u8)) yes, (goes-none 𝓤 H A W 1 (λ _. usize) yes (λ κs x f. refl), tt)) (read-frame.clauses 𝓤 H A mem run)
     (WpFn 𝓤 H (𝓣 .C) (𝓣 .Λ) code.function) (WpFn-mono 𝓤 H (W .laws) 𝓣 code.function)
-    (walked 𝓤 H A read-at.ended stayed (read-at.clauses 𝓤 H A mem run) (WpFn 𝓤 H (𝓣 .C) (𝓣 .Λ) code.function) (λ κs. (slice-vals, (uint-vals w64, tt))) (λ κs. (shr-slice-tells (named 0) (κs .0) u8, (uint-tells w64, tt)))
+    (walked 𝓤 H A read-frame.ended stayed (read-frame.clauses 𝓤 H A mem run) (WpFn 𝓤 H (𝓣 .C) (𝓣 .Λ) code.function) (λ κs. (slice-vals, (uint-vals w64, tt))) (λ κs. (shr-slice-tells (named 0) (κs .0) u8, (uint-tells w64, tt)))
     (λ κs qs bounds a g are. via 𝓤 _ (fst∗ 𝓤 _ (emp 𝓤)) (walk 𝓤 H A W mem run (κs .0) (qs .0) (a .0) (a .1 .0) (are .1 .0 .1) (𝓣 .C) (𝓣 .Λ) (fmOf 𝓤 H (W .laws) 𝓣) known-reader-at known-next (are .0))))
 
-pub read-at-spec : {M : Type 1} → stated.statement M
+pub read-frame-spec : {M : Type 1} → stated.statement M
 unfolding code.routine tablesOf
-read-at-spec 𝓤 H 𝓜 𝓖 𝓡 =
-    entered 𝓤 H (tripleOf 𝓤 H (𝓖 .A) read-at.signature (read-at.spec 𝓤 H (𝓖 .A) (𝓜 .mem) (𝓡 .run)))
-    (tables 𝓤 H 𝓜 𝓡 code.env .C) (tables 𝓤 H 𝓜 𝓡 code.env .Λ) #read-at code.function (code.unfolded 𝓤 H 𝓜 𝓡)
-    (read-at-meets 𝓤 H (𝓖 .A) (givenOf 𝓤 H 𝓜 𝓖) (𝓜 .mem) (𝓡 .run) (tablesOf 𝓤 H 𝓜 (tables 𝓤 H 𝓜 𝓡 code.env))
+read-frame-spec 𝓤 H 𝓜 𝓖 𝓡 =
+    entered 𝓤 H (tripleOf 𝓤 H (𝓖 .A) read-frame.signature (read-frame.spec 𝓤 H (𝓖 .A) (𝓜 .mem) (𝓡 .run)))
+    (tables 𝓤 H 𝓜 𝓡 code.env .C) (tables 𝓤 H 𝓜 𝓡 code.env .Λ) #read-frame code.function (code.unfolded 𝓤 H 𝓜 𝓡)
+    (read-frame-meets 𝓤 H (𝓖 .A) (givenOf 𝓤 H 𝓜 𝓖) (𝓜 .mem) (𝓡 .run) (tablesOf 𝓤 H 𝓜 (tables 𝓤 H 𝓜 𝓡 code.env))
     (cited 𝓤 H (ReaderAt 𝓤 H (𝓖 .A) (𝓜 .mem) (𝓡 .run)) 𝓜 𝓡 code.env #reader-at reader-at-def.routine code.calls-record·cursor·reader-at (reader-at-thm.met 𝓤 H 𝓜 𝓖 𝓡))
     (cited 𝓤 H (Next 𝓤 H (𝓖 .A) (𝓜 .mem) (𝓡 .run)) 𝓜 𝓡 code.env #next next-def.routine code.calls-record·cursor·next (next-thm.met 𝓤 H 𝓜 𝓖 𝓡)))
