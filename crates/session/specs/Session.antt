@@ -98,7 +98,8 @@ abbrev pub fedAnswer : Extension → ℕ → List ℕ → List ℕ → Output
 fedAnswer Unreadable used buffer bytes = Refused sessionUnfit 0
 fedAnswer Full used buffer bytes = Refused sessionFull 0
 fedAnswer (Faulty number records) used buffer bytes = Refused number records
-fedAnswer (Fits records) used buffer bytes = if ltb (length buffer) (used + length bytes) then Refused bufferTooShort 0 else Written (length bytes)
+fedAnswer (Fits records) used buffer bytes =
+    if ltb (length buffer) (used + length bytes) then Refused bufferTooShort 0 else Written (length bytes)
 
 unfoldable pub feedAnswer : ℕ → ℕ → List ℕ → List ℕ → Output
 feedAnswer stage used buffer bytes =

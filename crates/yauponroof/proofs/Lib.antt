@@ -1,4 +1,2 @@
-pub mod Laws
-pub mod SessionLaws
 pub mod Turns
 pub mod SharedSessions

@@ -33,9 +33,9 @@ use denote.Triple.Call.{calls-at}
 use Rattle.session.specs.declared.session.Session.{Session}
 use Rattle.session.proofs.session.Session as T
 use Rattle.session.proofs.session.Session.Laws as T′
-use Rattle.yauponroof.specs.declared.sessions.Turn.{Turn}
-use Rattle.yauponroof.proofs.sessions.Turn as S
-use Rattle.yauponroof.proofs.sessions.Turn.Laws as S′
+use Rattle.answers.specs.declared.sessions.Turn.{Turn}
+use Rattle.answers.proofs.sessions.Turn as S
+use Rattle.answers.proofs.sessions.Turn.Laws as S′
 
 abbrev pub SessionT : RattleType
 SessionT = T.the-row

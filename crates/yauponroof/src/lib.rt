@@ -1,25 +1,23 @@
 // The C interface, include/yauponroof.h: thin exports on byte slices and numbers. Every call answers one number, whose high
 // 32 bits are 0 if the call was accepted, else the refusal's number, and whose low 32 bits are what the call returns, or the
-// refusal's record index. specs/Answer.antt says which number each outcome is.
+// refusal's record index. The crate answers makes that number and says, in its specs/, which one each outcome is.
 ghost use mathlib.Core.Path.{_≡_};
 ghost use Rattle.buffer.specs.Output.{outputAnswer};
 ghost use Rattle.reader.specs.Log.{readLog, checked};
 ghost use Rattle.replay.specs.Replay.{replayed};
 ghost use Rattle.projection.specs.Outcome.{excerptAnswer, excerptLeaves, narrowAnswer, narrowLeaves};
-ghost use Rattle.yauponroof.specs.Answer.{checkAnswer, replayAnswer, JudgeAnswers};
+ghost use Rattle.answers.specs.Answer.{checkAnswer, replayAnswer, JudgeAnswers};
 
-mod answer;
 pub mod sessions;
 
-use crate::answer::judged;
-use crate::answer::output_answer;
-use crate::answer::refuse;
+use answers::answer::check_answer;
+use answers::answer::judge_answer;
+use answers::answer::output_answer;
+use answers::answer::replay_answer;
 use judge::judge::judge;
 use projection::excerpt::excerpt;
 use projection::narrow::narrow;
-use reader::log::Checked;
 use reader::log::check;
-use replay::replay::Replayed;
 use replay::replay::replay;
 
 // Checks a log. Returns the number of its operations, or a refusal from 1 to 10.
@@ -27,13 +25,7 @@ use replay::replay::replay;
 pub extern "C" fn yr_check(log: &[u8]) -> u64
     ensures { λ r. ⌜ r ≡ checkAnswer (checked (readLog (now (log .entry)))) ⌝ }
 {
-    match check(log) {
-        Checked::Readable {
-            records: _,
-            operations,
-        } => operations as u64,
-        Checked::Refused { number, index } => refuse(number, index),
-    }
+    check_answer(check(log))
 }
 
 // Holds the order that a sheet lists against a log. Returns 1 if it is legal and 0 if it is not, or a refusal from 1 to 11.
@@ -41,11 +33,7 @@ pub extern "C" fn yr_check(log: &[u8]) -> u64
 pub extern "C" fn yr_replay(log: &[u8], sheet: &[u8]) -> u64
     ensures { λ r. ⌜ r ≡ replayAnswer (replayed (readLog (now (log .entry))) (now (sheet .entry))) ⌝ }
 {
-    match replay(log, sheet) {
-        Replayed::Yes => 1,
-        Replayed::No => 0,
-        Replayed::Refused { number, index } => refuse(number, index),
-    }
+    replay_answer(replay(log, sheet))
 }
 
 // Judges a log: writes the sheet of its verdict. Returns how many bytes were written, or a refusal from 1 to 10 or 24.
@@ -53,7 +41,7 @@ pub extern "C" fn yr_replay(log: &[u8], sheet: &[u8]) -> u64
 pub extern "C" fn yr_judge(log: &[u8], sheet: &mut [u8]) -> u64
     ensures { λ r. ⌜ JudgeAnswers (readLog (now (log .entry))) (now (sheet .entry)) r (now (sheet .exit)) ⌝ }
 {
-    judged(judge(log, sheet))
+    judge_answer(judge(log, sheet))
 }
 
 // Writes the excerpt of a log whose verdict is a pattern. Returns how many bytes were written, or a refusal from 1 to 10, 23 or 24.

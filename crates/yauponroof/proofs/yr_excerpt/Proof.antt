@@ -1,7 +1,7 @@
 -- `yr_excerpt` meets its contract.
 use mathlib.Core.Path.{ap, _∙_}
 use Rattle.buffer.specs.Output.{outputAnswer}
-use Rattle.yauponroof.proofs.Laws.{of-log, excerpt-small}
+use Rattle.answers.proofs.Laws.{of-log, excerpt-small}
 use borrow.Author.Needs.{needs}
 use Rattle.yauponroof.proofs.yr_excerpt.Statement.{statement}
 use Rattle.yauponroof.proofs.yr_excerpt.Tie as tie

@@ -1,7 +1,7 @@
 -- `yr_narrow` meets its contract.
 use mathlib.Core.Path.{ap, _∙_}
 use Rattle.buffer.specs.Output.{outputAnswer}
-use Rattle.yauponroof.proofs.Laws.{narrow-small}
+use Rattle.answers.proofs.Laws.{narrow-small}
 use borrow.Author.Needs.{needs}
 use Rattle.yauponroof.proofs.yr_narrow.Statement.{statement}
 use Rattle.yauponroof.proofs.yr_narrow.Tie as tie

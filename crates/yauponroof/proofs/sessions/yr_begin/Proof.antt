@@ -35,13 +35,13 @@ use denote.Triple.Spec.{Meets, tripleOf}
 use denote.Triple.Table.{entered, cited}
 use denote.Triple.Walked.{says, Stays, stay-ref, gave-slice, walkOf, goes-ref, goes-gave-slice, ends-at, walked, walk-meets}
 use Rattle.session.specs.declared.session.Session.{Session}
-use Rattle.yauponroof.specs.Session.{BeginAnswers}
-use Rattle.yauponroof.specs.declared.sessions.Turn.{Turn}
+use Rattle.answers.specs.Session.{BeginAnswers}
+use Rattle.answers.specs.declared.sessions.Turn.{Turn}
 use Rattle.yauponroof.proofs.Turns.{SessionT, left, at-session, Borrowed, SessionFits, slice-val, slice-typed, turn-typed, session-opens, session-closes, session-passes, calls-turn, list-lasts}
-use Rattle.yauponroof.proofs.sessions.begin_turn as begin-turn
-use Rattle.yauponroof.proofs.sessions.begin_turn.Symbol as begin-turn-def
-use Rattle.yauponroof.proofs.sessions.begin_turn.Symbol.{name as #begin-turn}
-use Rattle.yauponroof.proofs.sessions.begin_turn.Met as begin-turn-thm
+use Rattle.answers.proofs.sessions.begin_turn as begin-turn
+use Rattle.answers.proofs.sessions.begin_turn.Symbol as begin-turn-def
+use Rattle.answers.proofs.sessions.begin_turn.Symbol.{name as #begin-turn}
+use Rattle.answers.proofs.sessions.begin_turn.Met as begin-turn-thm
 use Rattle.yauponroof.proofs.sessions.yr_begin.Key.{name as #yr-begin}
 use Rattle.yauponroof.proofs.sessions.yr_begin as yr-begin
 use Rattle.yauponroof.proofs.sessions.yr_begin.Statement as stated
@@ -133,4 +133,4 @@ yr-begin-spec 𝓤 H 𝓜 𝓖 𝓡 =
     entered 𝓤 H (tripleOf 𝓤 H (𝓖 .A) yr-begin.signature (yr-begin.spec 𝓤 H (𝓖 .A) (𝓜 .mem) (𝓡 .run)))
     (tables 𝓤 H 𝓜 𝓡 code.env .C) (tables 𝓤 H 𝓜 𝓡 code.env .Λ) #yr-begin code.function (code.unfolded 𝓤 H 𝓜 𝓡)
     (yr-begin-meets 𝓤 H (𝓖 .A) (givenOf 𝓤 H 𝓜 𝓖) (𝓜 .mem) (𝓡 .run) (tablesOf 𝓤 H 𝓜 (tables 𝓤 H 𝓜 𝓡 code.env))
-    (cited 𝓤 H (BeginTurn 𝓤 H (𝓖 .A) (𝓜 .mem) (𝓡 .run)) 𝓜 𝓡 code.env #begin-turn begin-turn-def.routine code.calls-yauponroof·sessions·begin-turn (begin-turn-thm.met 𝓤 H 𝓜 𝓖 𝓡)))
+    (cited 𝓤 H (BeginTurn 𝓤 H (𝓖 .A) (𝓜 .mem) (𝓡 .run)) 𝓜 𝓡 code.env #begin-turn begin-turn-def.routine code.calls-answers·sessions·begin-turn (begin-turn-thm.met 𝓤 H 𝓜 𝓖 𝓡)))

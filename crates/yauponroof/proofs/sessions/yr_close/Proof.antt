@@ -36,13 +36,13 @@ use denote.Triple.Table.{entered, cited}
 use denote.Triple.Walked.{says, Stays, stay-ref, gave-slice, stay-none-slice, walkOf, goes-ref, goes-gave-slice, goes-none-slice, ends-at, walked, walk-meets}
 use denote.Exit.{yes}
 use Rattle.session.specs.declared.session.Session.{Session}
-use Rattle.yauponroof.specs.Session.{CloseAnswers}
-use Rattle.yauponroof.specs.declared.sessions.Turn.{Turn}
+use Rattle.answers.specs.Session.{CloseAnswers}
+use Rattle.answers.specs.declared.sessions.Turn.{Turn}
 use Rattle.yauponroof.proofs.Turns.{SessionT, left, at-session, Borrowed, SessionFits, slice-val, slice-typed, turn-typed, session-opens, session-closes, session-passes, calls-turn, list-lasts}
-use Rattle.yauponroof.proofs.sessions.close_turn as close-turn
-use Rattle.yauponroof.proofs.sessions.close_turn.Symbol as close-turn-def
-use Rattle.yauponroof.proofs.sessions.close_turn.Symbol.{name as #close-turn}
-use Rattle.yauponroof.proofs.sessions.close_turn.Met as close-turn-thm
+use Rattle.answers.proofs.sessions.close_turn as close-turn
+use Rattle.answers.proofs.sessions.close_turn.Symbol as close-turn-def
+use Rattle.answers.proofs.sessions.close_turn.Symbol.{name as #close-turn}
+use Rattle.answers.proofs.sessions.close_turn.Met as close-turn-thm
 use Rattle.yauponroof.proofs.sessions.yr_close.Key.{name as #yr-close}
 use Rattle.yauponroof.proofs.sessions.yr_close as yr-close
 use Rattle.yauponroof.proofs.sessions.yr_close.Statement as stated
@@ -143,4 +143,4 @@ yr-close-spec 𝓤 H 𝓜 𝓖 𝓡 =
     entered 𝓤 H (tripleOf 𝓤 H (𝓖 .A) yr-close.signature (yr-close.spec 𝓤 H (𝓖 .A) (𝓜 .mem) (𝓡 .run)))
     (tables 𝓤 H 𝓜 𝓡 code.env .C) (tables 𝓤 H 𝓜 𝓡 code.env .Λ) #yr-close code.function (code.unfolded 𝓤 H 𝓜 𝓡)
     (yr-close-meets 𝓤 H (𝓖 .A) (givenOf 𝓤 H 𝓜 𝓖) (𝓜 .mem) (𝓡 .run) (tablesOf 𝓤 H 𝓜 (tables 𝓤 H 𝓜 𝓡 code.env))
-    (cited 𝓤 H (CloseTurn 𝓤 H (𝓖 .A) (𝓜 .mem) (𝓡 .run)) 𝓜 𝓡 code.env #close-turn close-turn-def.routine code.calls-yauponroof·sessions·close-turn (close-turn-thm.met 𝓤 H 𝓜 𝓖 𝓡)))
+    (cited 𝓤 H (CloseTurn 𝓤 H (𝓖 .A) (𝓜 .mem) (𝓡 .run)) 𝓜 𝓡 code.env #close-turn close-turn-def.routine code.calls-answers·sessions·close-turn (close-turn-thm.met 𝓤 H 𝓜 𝓖 𝓡)))

@@ -36,13 +36,13 @@ use denote.Triple.Table.{entered, cited}
 use denote.Triple.Walked.{says, Stays, stay-ref, gave-slice, stay-none-slice, walkOf, goes-ref, goes-gave-slice, goes-none-slice, ends-at, walked, walk-meets}
 use denote.Exit.{yes}
 use Rattle.session.specs.declared.session.Session.{Session}
-use Rattle.yauponroof.specs.Session.{FeedAnswers}
-use Rattle.yauponroof.specs.declared.sessions.Turn.{Turn}
+use Rattle.answers.specs.Session.{FeedAnswers}
+use Rattle.answers.specs.declared.sessions.Turn.{Turn}
 use Rattle.yauponroof.proofs.Turns.{SessionT, left, at-session, Borrowed, SessionFits, slice-val, slice-typed, turn-typed, session-opens, session-closes, session-passes, calls-turn, list-lasts}
-use Rattle.yauponroof.proofs.sessions.feed_turn as feed-turn
-use Rattle.yauponroof.proofs.sessions.feed_turn.Symbol as feed-turn-def
-use Rattle.yauponroof.proofs.sessions.feed_turn.Symbol.{name as #feed-turn}
-use Rattle.yauponroof.proofs.sessions.feed_turn.Met as feed-turn-thm
+use Rattle.answers.proofs.sessions.feed_turn as feed-turn
+use Rattle.answers.proofs.sessions.feed_turn.Symbol as feed-turn-def
+use Rattle.answers.proofs.sessions.feed_turn.Symbol.{name as #feed-turn}
+use Rattle.answers.proofs.sessions.feed_turn.Met as feed-turn-thm
 use Rattle.yauponroof.proofs.sessions.yr_feed.Key.{name as #yr-feed}
 use Rattle.yauponroof.proofs.sessions.yr_feed as yr-feed
 use Rattle.yauponroof.proofs.sessions.yr_feed.Statement as stated
@@ -143,4 +143,4 @@ yr-feed-spec 𝓤 H 𝓜 𝓖 𝓡 =
     entered 𝓤 H (tripleOf 𝓤 H (𝓖 .A) yr-feed.signature (yr-feed.spec 𝓤 H (𝓖 .A) (𝓜 .mem) (𝓡 .run)))
     (tables 𝓤 H 𝓜 𝓡 code.env .C) (tables 𝓤 H 𝓜 𝓡 code.env .Λ) #yr-feed code.function (code.unfolded 𝓤 H 𝓜 𝓡)
     (yr-feed-meets 𝓤 H (𝓖 .A) (givenOf 𝓤 H 𝓜 𝓖) (𝓜 .mem) (𝓡 .run) (tablesOf 𝓤 H 𝓜 (tables 𝓤 H 𝓜 𝓡 code.env))
-    (cited 𝓤 H (FeedTurn 𝓤 H (𝓖 .A) (𝓜 .mem) (𝓡 .run)) 𝓜 𝓡 code.env #feed-turn feed-turn-def.routine code.calls-yauponroof·sessions·feed-turn (feed-turn-thm.met 𝓤 H 𝓜 𝓖 𝓡)))
+    (cited 𝓤 H (FeedTurn 𝓤 H (𝓖 .A) (𝓜 .mem) (𝓡 .run)) 𝓜 𝓡 code.env #feed-turn feed-turn-def.routine code.calls-answers·sessions·feed-turn (feed-turn-thm.met 𝓤 H 𝓜 𝓖 𝓡)))

@@ -3,11 +3,11 @@
 use contract.Running.{givenOf, tables, tablesOf}
 use denote.Triple.Spec.{tripleOf}
 use denote.Triple.Table.{entered, cited}
-use Rattle.yauponroof.specs.Session.{ExcerptAnswers}
+use Rattle.answers.specs.Session.{ExcerptAnswers}
 use Rattle.yauponroof.proofs.SharedSessions.{Work, passes-on-meets}
-use Rattle.yauponroof.proofs.sessions.excerpt_answer.Symbol as excerpt-answer-def
-use Rattle.yauponroof.proofs.sessions.excerpt_answer.Symbol.{name as #excerpt-answer}
-use Rattle.yauponroof.proofs.sessions.excerpt_answer.Met as excerpt-answer-thm
+use Rattle.answers.proofs.sessions.excerpt_answer.Symbol as excerpt-answer-def
+use Rattle.answers.proofs.sessions.excerpt_answer.Symbol.{name as #excerpt-answer}
+use Rattle.answers.proofs.sessions.excerpt_answer.Met as excerpt-answer-thm
 use Rattle.yauponroof.proofs.sessions.yr_session_excerpt.Key.{name as #yr-session-excerpt}
 use Rattle.yauponroof.proofs.sessions.yr_session_excerpt as yr-session-excerpt
 use Rattle.yauponroof.proofs.sessions.yr_session_excerpt.Statement as stated
@@ -19,4 +19,4 @@ yr-session-excerpt-spec 𝓤 H 𝓜 𝓖 𝓡 =
     entered 𝓤 H (tripleOf 𝓤 H (𝓖 .A) yr-session-excerpt.signature (yr-session-excerpt.spec 𝓤 H (𝓖 .A) (𝓜 .mem) (𝓡 .run)))
     (tables 𝓤 H 𝓜 𝓡 code.env .C) (tables 𝓤 H 𝓜 𝓡 code.env .Λ) #yr-session-excerpt code.function (code.unfolded 𝓤 H 𝓜 𝓡)
     (passes-on-meets ExcerptAnswers 𝓤 H (𝓖 .A) (givenOf 𝓤 H 𝓜 𝓖) #excerpt-answer (tablesOf 𝓤 H 𝓜 (tables 𝓤 H 𝓜 𝓡 code.env))
-    (cited 𝓤 H (Work ExcerptAnswers 𝓤 H (𝓖 .A)) 𝓜 𝓡 code.env #excerpt-answer excerpt-answer-def.routine code.calls-yauponroof·sessions·excerpt-answer (excerpt-answer-thm.met 𝓤 H 𝓜 𝓖 𝓡)))
+    (cited 𝓤 H (Work ExcerptAnswers 𝓤 H (𝓖 .A)) 𝓜 𝓡 code.env #excerpt-answer excerpt-answer-def.routine code.calls-answers·sessions·excerpt-answer (excerpt-answer-thm.met 𝓤 H 𝓜 𝓖 𝓡)))

@@ -4,10 +4,10 @@ use mathlib.Core.Path.{refl, sym, ap, _∙_}
 use Rattle.buffer.specs.Output.{outputAnswer}
 use Rattle.session.specs.Session.{usedFed}
 use Rattle.session.proofs.Bounds.{accepted-small}
-use Rattle.yauponroof.proofs.SessionLaws.{feed-small}
+use Rattle.answers.proofs.SessionLaws.{feed-small}
 use borrow.Author.Needs.{needs}
-use Rattle.yauponroof.proofs.sessions.feed_turn.Statement.{statement}
-use Rattle.yauponroof.proofs.sessions.feed_turn.Tie as tie
+use Rattle.answers.proofs.sessions.feed_turn.Statement.{statement}
+use Rattle.answers.proofs.sessions.feed_turn.Tie as tie
 
 feed-requires : tie.Need-feed-requires
 feed-requires c κs = search needs

@@ -13,12 +13,10 @@ use Rattle.record.specs.Choice.{if_then_else_}
 use Rattle.record.specs.declared.record.Record.{Record}
 use Rattle.buffer.specs.Buffer.{bufferTooShort, lacksRoom}
 use Rattle.buffer.specs.Output.{writing, refusalUnit, refusal, outputAnswer}
-use Rattle.buffer.specs.declared.output.Output.{Output}
 use Rattle.buffer.specs.declared.output.Output.the-variants as output
 use Rattle.reader.specs.Log.{maxRecords, maxLength, Reading, readable, refused, readLog, checked, operations, encodeLog}
 use Rattle.reader.specs.Readable.{Within}
-use Rattle.reader.specs.declared.log.Checked.the-variants as check
-use Rattle.reader.proofs.Laws.{within, checked-refused, few-operations}
+use Rattle.reader.proofs.Laws.{within, few-operations}
 use Rattle.history.specs.Object.{Queue}
 use Rattle.history.specs.Operations.{historyOf}
 use Rattle.violations.specs.Violations.{NoViolation}
@@ -37,7 +35,7 @@ use Rattle.projection.specs.Projection.{valuesOf, narrowed, excerpted}
 use Rattle.projection.specs.Outcome.{narrowAnswer, excerptAnswerOf, excerptAnswer, excerptLeavesOf, excerptLeaves}
 use Rattle.projection.proofs.Laws.{projection-short}
 use Rattle.session.specs.Session.{heldLog, stageRefusal, sessionReading}
-use Rattle.yauponroof.specs.Answer.{checkAnswer, replayAnswer, judgeAnswer, Modest, JudgeAnswers, SmallOutput}
+use Rattle.answers.specs.Answer.{checkAnswer, replayAnswer, judgeAnswer, JudgeAnswers, SmallCheck, SmallReplay, SmallVerdict, SmallOutput}
 
 -- an answer that is accepted, with what it returns, and one that is refused
 pub record AcceptedWith (answer value : ℕ) : Type 0 where
@@ -66,10 +64,12 @@ check-turned-down log number index e =
     let small : Within (refused number index) = rw e at (within log) in
     rw e (refusal-turned-down number index (small .0) (omega (arith, small .2)))
 
-pub check-fits : (log : List ℕ) {number index : ℕ} → checked (readLog log) ≡ check.Refused number index → index < refusalUnit
-check-fits log {number} {index} e =
-    let small : Within (refused number index) = rw (checked-refused (readLog log) e) at (within log) in
-    omega arith
+pub check-small : (log : List ℕ) → SmallCheck (checked (readLog log))
+check-small log = go (readLog log) (within log)
+  where
+    go : (reading : Reading) → Within reading → SmallCheck (checked reading)
+    go (readable records) few = omega (arith, few, few-operations records)
+    go (refused number index) small = (small .0, small .2)
 
 -- of a replay
 pub replay-yes : (log sheet : List ℕ) → replayed (readLog log) sheet ≡ replay.Yes → AcceptedWith (replayAnswer (replayed (readLog log) sheet)) 1
@@ -83,8 +83,13 @@ replay-turned-down log sheet number index e =
     let (some, few, small) = replay-within log sheet e in
     rw e (refusal-turned-down number index some (omega arith))
 
-pub replay-fits : (log sheet : List ℕ) {number index : ℕ} → replayed (readLog log) sheet ≡ replay.Refused number index → index < refusalUnit
-replay-fits log sheet e = let (some, few, small) = replay-within log sheet e in omega arith
+pub replay-small : (log sheet : List ℕ) → SmallReplay (replayed (readLog log) sheet)
+replay-small log sheet = go (replayed (readLog log) sheet) refl
+  where
+    go : (answer : Replayed) → replayed (readLog log) sheet ≡ answer → SmallReplay answer
+    go replay.Yes e = tt
+    go replay.No e = tt
+    go (replay.Refused number index) e = let (some, few, small) = replay-within log sheet e in (some, small)
 
 -- The answer is 1 exactly if the log is readable and the sheet lists a legal order of it.
 pub one-is-legal : (log sheet : List ℕ) → replayAnswer (replayed (readLog log) sheet) ≡ 1 → ListsLinearization log sheet
@@ -150,53 +155,21 @@ excerpt-small (of-log log) out = go (readLog log) refl (within log)
     go (readable records) reads few = of-pattern records reads (first-violation Queue (historyOf records))
     go (refused number index) reads few = (few .0, few .2)
 
--- the same, by the answer's case
-pub refused-small : {given : Output} {number index : ℕ} → SmallOutput given → given ≡ output.Refused number index → index < refusalUnit
-refused-small {number = number} {index} small e = go (rw e at small)
-  where
-    go : SmallOutput (output.Refused number index) → index < refusalUnit
-    go small = omega (arith, small .1)
-
-pub written-small : {given : Output} {n : ℕ} → SmallOutput given → given ≡ output.Written n → n ≤ maxLength
-written-small {n = n} small e = go (rw e at small)
-  where
-    go : SmallOutput (output.Written n) → n ≤ maxLength
-    go short = short
-
 pub written-accepted : (n : ℕ) → SmallOutput (output.Written n) → AcceptedWith (outputAnswer (output.Written n)) n
 written-accepted n short = small-accepted n (omega (arith, short))
 
 pub refused-turned-down : (number index : ℕ) → SmallOutput (output.Refused number index) → TurnedDown (outputAnswer (output.Refused number index)) number index
 refused-turned-down number index small = refusal-turned-down number index (small .0) (omega (arith, small .1))
 
--- of judging: the numbers in a verdict are small
-refused-modest : {number index : ℕ} {sheet sheet' : List ℕ} {verdict : Verdict} → 1 ≤ number → index ≤ maxRecords → Judges (refused number index) sheet verdict sheet' → Modest verdict
-refused-modest some few Judge.turned-down = (some, few)
+-- of judging
+refused-verdict-small : {number index : ℕ} {sheet sheet' : List ℕ} {verdict : Verdict} → 1 ≤ number → index ≤ maxRecords → Judges (refused number index) sheet verdict sheet' → SmallVerdict verdict
+refused-verdict-small some few Judge.turned-down = (some, few)
 
-pub judges-modest : {reading : Reading} → Known reading → {sheet sheet' : List ℕ} (verdict : Verdict) → Judges reading sheet verdict sheet' → Modest verdict
-judges-modest (standing some) verdict j = refused-modest some (omega arith) j
-judges-modest (of-log log) (judge.Order k) j = judged-at-most log j Judge.order
-judges-modest (of-log log) (judge.Pattern number k) j = judged-at-most log j Judge.pattern
-judges-modest (of-log log) (judge.Refused number index) j = judged-refusal log j
-
--- the same, by the verdict's case
-pub order-modest : {verdict : Verdict} {k : ℕ} → Modest verdict → verdict ≡ judge.Order k → k ≤ 682
-order-modest {k = k} modest e = go (rw e at modest)
-  where
-    go : Modest (judge.Order k) → k ≤ 682
-    go few = few
-
-pub pattern-modest : {verdict : Verdict} {number k : ℕ} → Modest verdict → verdict ≡ judge.Pattern number k → k ≤ 682
-pattern-modest {number = number} {k} modest e = go (rw e at modest)
-  where
-    go : Modest (judge.Pattern number k) → k ≤ 682
-    go few = few
-
-pub refusal-modest : {verdict : Verdict} {number index : ℕ} → Modest verdict → verdict ≡ judge.Refused number index → index < refusalUnit
-refusal-modest {number = number} {index} modest e = go (rw e at modest)
-  where
-    go : Modest (judge.Refused number index) → index < refusalUnit
-    go small = omega (arith, small .1)
+pub judges-small : {reading : Reading} → Known reading → {sheet sheet' : List ℕ} (verdict : Verdict) → Judges reading sheet verdict sheet' → SmallVerdict verdict
+judges-small (standing some) verdict j = refused-verdict-small some (omega arith) j
+judges-small (of-log log) (judge.Order k) j = judged-at-most log j Judge.order
+judges-small (of-log log) (judge.Pattern number k) j = judged-at-most log j Judge.pattern
+judges-small (of-log log) (judge.Refused number index) j = judged-refusal log j
 
 -- a refusal leaves the sheet as it was
 refused-untouched : (reading : Reading) {sheet sheet' : List ℕ} {verdict : Verdict} {number index : ℕ} → Judges reading sheet verdict sheet' → verdict ≡ judge.Refused number index → sheet' ≡ sheet
@@ -210,9 +183,9 @@ pub data JudgeSays (reading : Reading) (sheet : List ℕ) (answer : ℕ) (sheet'
   turned-down : {number index : ℕ} → Judges reading sheet (judge.Refused number index) sheet' → TurnedDown answer number index → sheet' ≡ sheet → JudgeSays reading sheet answer sheet'
 
 pub judge-says : {reading : Reading} → Known reading → {sheet sheet' : List ℕ} {answer : ℕ} → JudgeAnswers reading sheet answer sheet' → JudgeSays reading sheet answer sheet'
-judge-says {reading} known {sheet} {sheet'} {answer} a = go (a .verdict) (a .judges) (judges-modest known (a .verdict) (a .judges)) (a .answers)
+judge-says {reading} known {sheet} {sheet'} {answer} a = go (a .verdict) (a .judges) (judges-small known (a .verdict) (a .judges)) (a .answers)
   where
-    go : (verdict : Verdict) → Judges reading sheet verdict sheet' → Modest verdict → answer ≡ judgeAnswer verdict → JudgeSays reading sheet answer sheet'
+    go : (verdict : Verdict) → Judges reading sheet verdict sheet' → SmallVerdict verdict → answer ≡ judgeAnswer verdict → JudgeSays reading sheet answer sheet'
     go (judge.Order k) j few e = wrote Judge.order j (rw e (small-accepted _ (omega (arith, few))))
     go (judge.Pattern number k) j few e = wrote Judge.pattern j (rw e (small-accepted _ (omega (arith, few))))
     go (judge.Refused number index) j small e = turned-down j (rw e (refusal-turned-down number index (small .0) (omega (arith, small .1)))) (refused-untouched reading j refl)

@@ -24,9 +24,9 @@ use Rattle.session.specs.Course.{Lent, begun, answerTo, afterFeed, afterClose, 
 use Rattle.session.proofs.Feeding.{begun-holds}
 use Rattle.session.proofs.Bounds.{accepted-length, AnswerWithin, feed-within}
 use Rattle.session.proofs.Laws.{feeds-are, begin-accepted, feeds-accepted, fed-since, feeding-is-judging, sheet-is-judging, excerpt-is}
-use Rattle.yauponroof.specs.Answer.{judgeAnswer, JudgeAnswers, SmallOutput}
-use Rattle.yauponroof.specs.Session.{BeginAnswers, FeedAnswers, CloseAnswers, SheetAnswers, ExcerptAnswers, FeedsAnswer, none, more}
-use Rattle.yauponroof.proofs.Laws.{AcceptedWith, TurnedDown, small-accepted, refusal-turned-down, session-known, judges-one, answers-one, excerpt-untouched, JudgeSays, wrote, turned-down, judge-says, written-accepted, refused-turned-down, excerpt-small}
+use Rattle.answers.specs.Answer.{judgeAnswer, JudgeAnswers, SmallOutput}
+use Rattle.answers.specs.Session.{BeginAnswers, FeedAnswers, CloseAnswers, SheetAnswers, ExcerptAnswers, FeedsAnswer, none, more}
+use Rattle.answers.proofs.Laws.{AcceptedWith, TurnedDown, small-accepted, refusal-turned-down, session-known, judges-one, answers-one, excerpt-untouched, JudgeSays, wrote, turned-down, judge-says, written-accepted, refused-turned-down, excerpt-small}
 
 -- What the number that begin answers says: three bytes were written and the session is open, or all is as it was.
 pub data BeginSays (stage used : ℕ) (buffer : List ℕ) (stage' used' : ℕ) (buffer' : List ℕ) (answer : ℕ) : Type 0 where

@@ -3,10 +3,10 @@ use native.Mathlib.Omega.{arith}
 use mathlib.Core.Path.{sym, ap, _∙_}
 use Rattle.buffer.specs.Output.{outputAnswer}
 use Rattle.session.specs.Session.{emptyLog, stageBegun, usedBegun}
-use Rattle.yauponroof.proofs.Laws.{writing-small, written-small}
+use Rattle.answers.proofs.Laws.{writing-small}
 use borrow.Author.Needs.{needs}
-use Rattle.yauponroof.proofs.sessions.begin_turn.Statement.{statement}
-use Rattle.yauponroof.proofs.sessions.begin_turn.Tie as tie
+use Rattle.answers.proofs.sessions.begin_turn.Statement.{statement}
+use Rattle.answers.proofs.sessions.begin_turn.Tie as tie
 
 begin-requires : tie.Need-begin-requires
 begin-requires c κs = search needs
@@ -20,7 +20,8 @@ enum-known-output c = search needs
 cast-t10 : tie.Need-cast-t10
 cast-t10 c =
     let begun = c .before .before .before .before .before .before in
-    omega (arith, written-small (writing-small emptyLog (begun .before .before .before .args .buf .now) (omega arith)) (sym (begun .begin .ensures .0) ∙ c .before .output .given .1))
+    let small = rw (sym (begun .begin .ensures .0) ∙ c .before .output .given .1) at (writing-small emptyLog (begun .before .before .before .args .buf .now) (omega arith)) in
+    omega (arith, small)
 
 enum-told : tie.Need-enum-told
 enum-told c = search needs

@@ -1,10 +1,10 @@
 -- `excerpt_answer` meets its contract.
 use mathlib.Core.Path.{ap, _∙_}
 use Rattle.buffer.specs.Output.{outputAnswer}
-use Rattle.yauponroof.proofs.Laws.{session-known, excerpt-small}
+use Rattle.answers.proofs.Laws.{session-known, excerpt-small}
 use borrow.Author.Needs.{needs}
-use Rattle.yauponroof.proofs.sessions.excerpt_answer.Statement.{statement}
-use Rattle.yauponroof.proofs.sessions.excerpt_answer.Tie as tie
+use Rattle.answers.proofs.sessions.excerpt_answer.Statement.{statement}
+use Rattle.answers.proofs.sessions.excerpt_answer.Tie as tie
 
 excerpt-held-requires : tie.Need-excerpt-held-requires
 excerpt-held-requires c κs = search needs

@@ -1,10 +1,10 @@
 -- `output_answer` meets its contract.
+use native.Mathlib.Omega.{arith}
 use mathlib.Core.Path.{sym, ap, _∙_}
 use Rattle.buffer.specs.Output.{outputAnswer}
-use Rattle.yauponroof.proofs.Laws.{refused-small}
 use borrow.Author.Needs.{needs}
-use Rattle.yauponroof.proofs.answer.output_answer.Statement.{statement}
-use Rattle.yauponroof.proofs.answer.output_answer.Tie as tie
+use Rattle.answers.proofs.answer.output_answer.Statement.{statement}
+use Rattle.answers.proofs.answer.output_answer.Tie as tie
 
 enum-known-o : tie.Need-enum-known-o
 enum-known-o c = search needs
@@ -13,7 +13,7 @@ enum-known-o-2 : tie.Need-enum-known-o-2
 enum-known-o-2 c = search needs
 
 refuse-requires : tie.Need-refuse-requires
-refuse-requires c κs = refused-small (c .before .before .before .pre) (c .before .o2 .given .1)
+refuse-requires c κs = let small = rw (c .before .o2 .given .1) at (c .before .before .before .pre) in omega (arith, small .1)
 
 returns : tie.Need-returns
 returns c = search needs

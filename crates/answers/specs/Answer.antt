@@ -1,4 +1,4 @@
--- The number that a call answers: what it returns, or a refusal, as `refusal` says. Of a call that writes a log it is `outputAnswer`; both stand in
+-- The number that a call answers: what it returns, or a refusal. `refusal`, and `outputAnswer` for a call that writes a log, stand in
 -- `Output` of the crate buffer.
 use Prim.Native.Nat.{ℕ, _≤_}
 use mathlib.Core.Path.{_≡_}
@@ -32,19 +32,28 @@ judgeAnswer (judge.Order k) = sheetBytes (judge.Order k)
 judgeAnswer (judge.Pattern number k) = sheetBytes (judge.Pattern number k)
 judgeAnswer (judge.Refused number index) = refusal number index
 
--- the numbers in a verdict are small, so that the answer fits: a sheet lists at most 682 operations
-abbrev pub Modest : Verdict → Type 0
-Modest (judge.Order k) = k ≤ 682
-Modest (judge.Pattern number k) = k ≤ 682
-Modest (judge.Refused number index) = (1 ≤ number) × (index ≤ maxRecords)
-
 -- A log, as it was read, is judged into a sheet: this number is answered, and this sheet is left.
 pub record JudgeAnswers (reading : Reading) (sheet : List ℕ) (answer : ℕ) (sheet' : List ℕ) : Type 0 where
   pub verdict : Verdict
   pub judges : Judges reading sheet verdict sheet'
   pub answers : answer ≡ judgeAnswer verdict
 
--- the numbers in the answer of a call that writes a log are small, too
+-- What an answer holds is small, so that its number fits: operations and bytes are those of a log, a sheet lists at most 682 operations,
+-- and a refusal has a number and an index of at most 1,024.
+abbrev pub SmallCheck : Checked → Type 0
+SmallCheck (check.Readable records operations) = operations ≤ maxRecords
+SmallCheck (check.Refused number index) = (1 ≤ number) × (index ≤ maxRecords)
+
+abbrev pub SmallReplay : Replayed → Type 0
+SmallReplay replay.Yes = Unit {0}
+SmallReplay replay.No = Unit {0}
+SmallReplay (replay.Refused number index) = (1 ≤ number) × (index ≤ maxRecords)
+
+abbrev pub SmallVerdict : Verdict → Type 0
+SmallVerdict (judge.Order k) = k ≤ 682
+SmallVerdict (judge.Pattern number k) = k ≤ 682
+SmallVerdict (judge.Refused number index) = (1 ≤ number) × (index ≤ maxRecords)
+
 abbrev pub SmallOutput : Output → Type 0
 SmallOutput (output.Written n) = n ≤ maxLength
 SmallOutput (output.Refused number index) = (1 ≤ number) × (index ≤ maxRecords)

@@ -5,7 +5,7 @@ use mathlib.Core.List.{List, [], _∷_}
 use Rattle.buffer.specs.Output.{outputAnswer}
 use Rattle.projection.specs.Outcome.{excerptAnswer, excerptLeaves}
 use Rattle.session.specs.Session.{openStage, closedStage, sessionReading, beginAnswer, beginLeaves, stageBegun, usedBegun, feedAnswer, feedLeaves, usedFed, stageClosed}
-use Rattle.yauponroof.specs.Answer.{JudgeAnswers}
+use Rattle.answers.specs.Answer.{JudgeAnswers}
 
 pub record BeginAnswers (stage used : ℕ) (buffer : List ℕ) (stage' used' : ℕ) (buffer' : List ℕ) (answer : ℕ) : Type 0 where
   pub answers : answer ≡ outputAnswer (beginAnswer buffer)
