@@ -11,7 +11,7 @@ use lib.Dec.{eqb}
 use borrow.Author.Tests.{eqb-false}
 use Rattle.record.specs.Choice.{if_then_else_}
 use Rattle.record.specs.declared.record.Record.{Record}
-use Rattle.buffer.specs.Buffer.{bufferTooShort, lacksRoom}
+use Rattle.buffer.specs.Buffer.{bufferTooShort, lacksRoom, written}
 use Rattle.buffer.specs.Output.{writing, refusalUnit, refusal, outputAnswer}
 use Rattle.buffer.specs.declared.output.Output.the-variants as output
 use Rattle.reader.specs.Log.{maxRecords, maxLength, Reading, readable, refused, readLog, checked, operations, encodeLog}
@@ -32,7 +32,7 @@ use Rattle.judge.specs.declared.judge.Verdict.{Verdict}
 use Rattle.judge.specs.declared.judge.Verdict.the-variants as judge
 use Rattle.judge.proofs.Laws.{judged-at-most, judged-refusal, judged-too-short, judged-determined}
 use Rattle.projection.specs.Projection.{valuesOf, narrowed, excerpted}
-use Rattle.projection.specs.Outcome.{narrowAnswer, excerptAnswerOf, excerptAnswer, excerptLeavesOf, excerptLeaves}
+use Rattle.projection.specs.Outcome.{narrowAnswer, narrowLeaves, excerptAnswerOf, excerptAnswer, excerptLeavesOf, excerptLeaves}
 use Rattle.projection.proofs.Laws.{projection-short}
 use Rattle.session.specs.Session.{heldLog, stageRefusal, sessionReading}
 use Rattle.answers.specs.Answer.{checkAnswer, replayAnswer, judgeAnswer, JudgeAnswers, SmallCheck, SmallReplay, SmallVerdict, SmallOutput}
@@ -190,19 +190,29 @@ judge-says {reading} known {sheet} {sheet'} {answer} a = go (a .verdict) (a .jud
     go (judge.Pattern number k) j few e = wrote Judge.pattern j (rw e (small-accepted _ (omega (arith, few))))
     go (judge.Refused number index) j small e = turned-down j (rw e (refusal-turned-down number index (small .0) (omega (arith, small .1)))) (refused-untouched reading j refl)
 
--- and of the excerpt so does a refusal
+-- A refusal leaves the buffer of a log that was to be written as it was,
+writing-untouched : (bytes out : List ℕ) {number index : ℕ} → writing bytes out ≡ output.Refused number index → written bytes out ≡ out
+writing-untouched bytes out {number} {index} e = go (lacksRoom bytes out) e
+  where
+    go : (lacks : Bool) → (if lacks then output.Refused bufferTooShort 0 else output.Written (length bytes)) ≡ output.Refused number index
+        → (if lacks then out else bytes ++ drop (length bytes) out) ≡ out
+    go true e = refl
+    go false e = let z : _≡_ {A = ℕ} 0 1 = cc in absurd (omega arith)
+
+-- of narrowing
+pub narrow-untouched : (reading : Reading) (values out : List ℕ) {number index : ℕ} → narrowAnswer reading values out ≡ output.Refused number index
+    → narrowLeaves reading values out ≡ out
+narrow-untouched (refused n i) values out e = refl
+narrow-untouched (readable records) values out e = writing-untouched (encodeLog (narrowed records values)) out e
+
+-- and of the excerpt
 pub excerpt-untouched : (reading : Reading) (out : List ℕ) {number index : ℕ} → excerptAnswer reading out ≡ output.Refused number index → excerptLeaves reading out ≡ out
 excerpt-untouched (refused n i) out e = refl
 excerpt-untouched (readable records) out {number} {index} e = go (first-violation Queue (historyOf records)) e
   where
-    room : (bytes : List ℕ) (lacks : Bool) → (if lacks then output.Refused bufferTooShort 0 else output.Written (length bytes)) ≡ output.Refused number index
-        → (if lacks then out else bytes ++ drop (length bytes) out) ≡ out
-    room bytes true e = refl
-    room bytes false e = let z : _≡_ {A = ℕ} 0 1 = cc in absurd (omega arith)
-
     go : (found : SomeViolation Queue (historyOf records) ⊎ NoViolation Queue (historyOf records))
         → excerptAnswerOf records found out ≡ output.Refused number index → excerptLeavesOf records found out ≡ out
-    go (inl (n, listed, first)) e = room (encodeLog (excerpted records listed)) (lacksRoom (encodeLog (excerpted records listed)) out) e
+    go (inl (n, listed, first)) e = writing-untouched (encodeLog (excerpted records listed)) out e
     go (inr clean) e = refl
 
 -- Judging a log, or what a session holds, into one sheet has one answer and leaves one sheet.

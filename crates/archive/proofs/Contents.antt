@@ -52,7 +52,7 @@ sheet-contents log records reads {byte} {listed} {sheet} verdict chosen e =
     let says : verdictByte sheet ≡ byte = ap verdictByte e in
     record { records = records; reads = reads; verdict = rw (lists, says) verdict; chosen = rw (lists, says) chosen; whole = rw (lists, says) e }
 
-judged-contents : (log : List ℕ) {buffer left : List ℕ} {answer : Verdict} → Accepted answer → Judges (readLog log) buffer answer left → Contents log (take (sheetBytes answer) left)
+pub judged-contents : (log : List ℕ) {buffer left : List ℕ} {answer : Verdict} → Accepted answer → Judges (readLog log) buffer answer left → Contents log (take (sheetBytes answer) left)
 judged-contents log accepted j = go (readLog log) refl accepted j
   where
     go : (reading : Reading) → readLog log ≡ reading → {buffer left : List ℕ} {answer : Verdict} → Accepted answer → Judges reading buffer answer left → Contents log (take (sheetBytes answer) left)
@@ -60,7 +60,7 @@ judged-contents log accepted j = go (readLog log) refl accepted j
     go (refused number index) reads accepted turned-down = absurd (accepted-not-refused accepted refl)
 
 -- the verdict byte of an order
-order-byte : (log : List ℕ) {buffer left : List ℕ} {k : ℕ} → Judges (readLog log) buffer (Order k) left → verdictByte (take (sheetBytes (Order k)) left) ≡ orderVerdict
+pub order-byte : (log : List ℕ) {buffer left : List ℕ} {k : ℕ} → Judges (readLog log) buffer (Order k) left → verdictByte (take (sheetBytes (Order k)) left) ≡ orderVerdict
 order-byte log j = go (readLog log) j refl
   where
     go : (reading : Reading) → {buffer left : List ℕ} {answer : Verdict} {k : ℕ} → Judges reading buffer answer left → answer ≡ Order k → verdictByte (take (sheetBytes (Order k)) left) ≡ orderVerdict

@@ -28,6 +28,8 @@ use Rattle.archive.proofs.Traded.{TradedBytes, traded-bytes, traded-rea
 -- Every readable log has an archive, and only one.
 pub use Rattle.archive.proofs.Existing.{archive-exists}
 pub use Rattle.archive.proofs.Only.{archive-one}
+-- What accepted calls write is an archive.
+pub use Rattle.archive.proofs.Only.{order-alone, judged-archived, excerpt-archived}
 
 -- What the sheet of an archive holds: the verdict of the log's history, in the form that document 01 gives, and nothing else.
 pub verdict-is : {log sheet excerpt : List ℕ} {records : List Record} → readLog log ≡ readable records → Archive log sheet excerpt

@@ -2,9 +2,10 @@
 use Prim.Native.Nat.{ℕ}
 use native.Mathlib.Omega.{arith}
 use native.Mathlib.Decide.{ℕ-discrete}
-use mathlib.Core.Path.{_≡_, refl, sym, ap, _∙_}
+use mathlib.Core.Path.{_≡_, refl, sym, ap, _∙_, subst}
 use mathlib.Core.Logic.{_⊎_, inl, inr}
 use mathlib.Core.List.{List, []}
+use lib.ListN.{take}
 use Rattle.record.specs.declared.record.Record.{Record}
 use Rattle.buffer.specs.declared.output.Output.the-variants.{Written}
 use Rattle.reader.specs.Log.{readable, readLog, encodeLog}
@@ -17,10 +18,13 @@ use Rattle.history.proofs.Laws.{history-lawful, history-returned}
 use Rattle.violations.specs.Violations.{NoViolation}
 use Rattle.violations.specs.Verdict.{FirstViolation, SomeViolation}
 use Rattle.violations.proofs.Laws.{first-violation, judged-complete, excluded, verdict-one, listed-one, zero-is-linearization, pattern-of}
+use Rattle.judge.specs.Judge.{sheetBytes, Accepted, order, pattern, Judges}
+use Rattle.judge.specs.declared.judge.Verdict.{Verdict}
 use Rattle.projection.specs.Projection.{excerpted}
-use Rattle.projection.specs.Outcome.{excerptAnswerOf, excerptAnswer}
+use Rattle.projection.specs.Outcome.{excerptAnswerOf, excerptAnswer, excerptLeaves}
 use Rattle.archive.specs.Archive.{verdictByte, Archive, with-order, with-pattern}
-use Rattle.archive.proofs.Contents.{Contents, archive-contents, archive-excerpt}
+use Rattle.archive.proofs.Contents.{Contents, judged-contents, order-byte, archive-contents, archive-excerpt}
+use Rattle.archive.proofs.Existing.{archive-exists}
 
 -- the history that a sheet is about is lawful
 contents-lawful : {log sheet : List ℕ} (c : Contents log sheet) → Lawful (historyOf (c .records))
@@ -49,9 +53,9 @@ unwritten c e out {n} wrote = go (first-violation Queue (historyOf (c .records))
     go (inl (number, listed, first)) w = excluded (contents-lawful c) (judged-complete (zero-is-linearization (contents-returned c) (c .verdict) e)) (first .occurs)
     go (inr clean) w = let z : _≡_ {A = ℕ} 0 1 = cc in omega arith
 
-order-alone : {log sheet excerpt : List ℕ} → Archive log sheet excerpt → Contents log sheet → verdictByte sheet ≡ orderVerdict → excerpt ≡ []
-order-alone (with-order j) c e = refl
-order-alone (with-pattern j out wrote) c e = absurd (unwritten c e out wrote)
+pub order-alone : {log sheet excerpt : List ℕ} → Archive log sheet excerpt → verdictByte sheet ≡ orderVerdict → excerpt ≡ []
+order-alone (with-order j) e = refl
+order-alone {log} (with-pattern j out wrote) e = absurd (unwritten (judged-contents log pattern j) e out wrote)
 
 pub archive-one : {log sheet sheet' excerpt excerpt' : List ℕ} → Archive log sheet excerpt → Archive log sheet' excerpt' → (sheet ≡ sheet') × (excerpt ≡ excerpt')
 archive-one {log} {sheet} {sheet'} {excerpt} {excerpt'} x y = (same, go (ℕ-discrete (verdictByte sheet) orderVerdict))
@@ -68,5 +72,20 @@ archive-one {log} {sheet} {sheet'} {excerpt} {excerpt'} x y = (same, go (ℕ-dis
         archive-excerpt x records reads first n ∙ ap (λ s. encodeLog (excerpted records (listedOn s))) same ∙ sym (archive-excerpt y records reads (rw same at first) (λ e. n (ap verdictByte same ∙ e)))
 
     go : Dec (verdictByte sheet ≡ orderVerdict) → excerpt ≡ excerpt'
-    go (yes e) = order-alone x c e ∙ sym (order-alone y (archive-contents y) (ap verdictByte (sym same) ∙ e))
+    go (yes e) = order-alone x e ∙ sym (order-alone y (ap verdictByte (sym same) ∙ e))
     go (no n) = with-first (c .records) (c .reads) (pattern-of (c .verdict) n) n
+
+-- Whatever sheet judging wrote for a readable log, it is that of its archive;
+pub judged-archived : {log : List ℕ} {records : List Record} → readLog log ≡ readable records → {buffer left : List ℕ} {answer : Verdict}
+    → Accepted answer → Judges (readLog log) buffer answer left → (excerpt : List ℕ) × Archive log (take (sheetBytes answer) left) excerpt
+judged-archived {log} {records} reads {left = left} {answer} accepted j =
+    let (sheet, excerpt, archive) = archive-exists log records reads in
+    let same : sheet ≡ take (sheetBytes answer) left = contents-one (archive-contents archive) (judged-contents log accepted j) in
+    (excerpt, subst (λ s. Archive log s excerpt) same archive)
+
+-- and with a pattern whatever excerpt was written belongs to it.
+pub excerpt-archived : {log : List ℕ} {buffer left : List ℕ} {answer : Verdict} → Accepted answer → Judges (readLog log) buffer answer left
+    → (verdictByte (take (sheetBytes answer) left) ≡ orderVerdict → ⊥) → (out : List ℕ) {n : ℕ} → excerptAnswer (readLog log) out ≡ Written n
+    → Archive log (take (sheetBytes answer) left) (take n (excerptLeaves (readLog log) out))
+excerpt-archived {log} order j some out e = absurd (some (order-byte log j))
+excerpt-archived pattern j some out e = with-pattern j out e
