@@ -20,7 +20,7 @@ pub fn copy(bytes: &[u8], at: usize, out: &mut [u8])
     }
 }
 
-// Writes a number into the two bytes from a position on, big-endian; of a larger one its last two bytes.
+// Writes a number into the two bytes from a position on, big-endian. Of a number that does not fit it writes the low 16 bits.
 pub fn put16(x: usize, at: usize, out: &mut [u8])
     requires { ⌜ at + 2 ≤ length (now out) ⌝ }
     ensures { λ _. ⌜ now (out .exit) ≡ put at (bytesOf 2 x) (now (out .entry)) ⌝ }

@@ -39,8 +39,8 @@ numbersFrom sheet at (suc left) = bigEndian sheet at 2 ∷ numbersFrom sheet (at
 abbrev pub listedOn : List ℕ → List ℕ
 listedOn sheet = numbersFrom sheet sheetHeader (listedField sheet)
 
--- Whether a sheet has the form of an order. It has not, which is 11, if "the sheet has under 4 bytes, version not 1, verdict not 0, or
--- length not 4 + 2k".
+-- Whether a sheet has the form of an order. If it has not, replay refuses it under 11: "the sheet has under 4 bytes, version not 1,
+-- verdict not 0, or length not 4 + 2k".
 abbrev pub isOrderSheet : List ℕ → Bool
 isOrderSheet sheet =
     if ltb (length sheet) sheetHeader then false else

@@ -8,7 +8,7 @@ use lib.ListN.{length, take}
 use lib.Seq.{length-take-le}
 use borrow.Author.Tests.{lt-ltb, le-ltb, eq-eqb, ne-eqb}
 use Rattle.buffer.specs.Buffer.{bufferTooShort, lacksRoom, written}
-use Rattle.reader.specs.Log.{maxRecords, readLog, checked}
+use Rattle.reader.specs.Log.{readLog, checked}
 use Rattle.reader.specs.declared.log.Checked.{Checked}
 use Rattle.reader.specs.declared.log.Checked.the-variants as check
 use Rattle.reader.proofs.Laws.{readable-log, checked-refused}
@@ -31,10 +31,13 @@ use Rattle.judge.specs.declared.judge.Verdict.the-variants.{Order, Patte
 pub tabled-held : {log : List ℕ} {count end : ℕ} {table : List ℕ} → Tabled log count end table → Held (tabled count end table)
 tabled-held {log} t = record { lawful = agree-lawful (agree-sym (t .agree)) (history-lawful (readable-log log (t .records) (t .reads))); few = t .few; short = t .short }
 
--- a verdict has a byte, and lists no more than a log has records
-pub decided-small : {h : History} {byte k : ℕ} {list : List ℕ} → Decided h byte k list → (byte < 256) × (length (take k list) ≤ maxRecords)
-decided-small {k = k} {list} decided =
-    (omega (arith, complete-small (decided .verdict)), omega (arith, length-take-le k list (omega (arith, decided .within, decided .sized)), decided .within))
+-- a verdict has a byte
+pub decided-byte : {h : History} {byte k : ℕ} {list : List ℕ} → Decided h byte k list → byte < 256
+decided-byte decided = omega (arith, complete-small (decided .verdict))
+
+-- it lists as many operations as it says
+pub decided-long : {h : History} {byte k : ℕ} {list : List ℕ} → Decided h byte k list → length (take k list) ≡ k
+decided-long {k = k} {list} decided = length-take-le k list (omega (arith, decided .within, decided .sized))
 
 -- a verdict is delivered
 module _ (byte : ℕ) (listed sheet : List ℕ) where

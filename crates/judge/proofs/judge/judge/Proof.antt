@@ -1,9 +1,8 @@
 -- `judge` meets its contract: what is found for the table holds of the log, whose history agrees with it.
 use native.Mathlib.Omega.{arith}
-use mathlib.Core.Path.{refl, sym}
-use lib.Seq.{length-take-le}
+use mathlib.Core.Path.{refl}
 use Rattle.history.proofs.Tabulating.{log-tabled}
-use Rattle.judge.proofs.Answering.{tabled-held, decided-small, log-judged, log-refused}
+use Rattle.judge.proofs.Answering.{tabled-held, decided-byte, decided-long, log-judged, log-refused}
 use borrow.Author.Needs.{needs}
 use Rattle.judge.proofs.judge.judge.Statement.{statement}
 use Rattle.judge.proofs.judge.judge.Tie as tie
@@ -24,10 +23,10 @@ array-share-prefix-list : tie.Need-array-share-prefix-list
 array-share-prefix-list c = search needs
 
 slice-aggregate-deliver : tie.Need-slice-aggregate-deliver
-slice-aggregate-deliver c = sym (length-take-le _ _ (omega arith))
+slice-aggregate-deliver c = omega (arith, decided-long (c .before .decide .ensures))
 
 deliver-requires : tie.Need-deliver-requires
-deliver-requires c κs = decided-small (c .before .before .decide .ensures)
+deliver-requires c κs = let found = c .before .before .decide .ensures in (decided-byte found, omega (arith, decided-long found, found .within))
 
 returns : tie.Need-returns
 returns c = log-refused (c .before .before .before .before .before .before .before .args .log .now) (c .before .before .before .before .before .before .before .args .sheet .now) (c .before .before .before .tabulate .ensures .0) (c .before .number .given .1)
