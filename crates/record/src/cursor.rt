@@ -34,14 +34,14 @@ fn step_at(log: &[u8], at: usize) -> Advance
 }
 
 // A reader that has come as far as `at`.
-pub fn reader_at<'a>(log: &'a [u8], at: usize) -> Reader<'a>
+pub(crate) fn reader_at<'a>(log: &'a [u8], at: usize) -> Reader<'a>
     ensures { λ r. ⌜ (r .log ≡ log .entry) × (r .at ≡ at) ⌝ }
 {
     Reader { log, at }
 }
 
 // The frame where the reader is, with the reader moved past it. A refusal leaves the reader where it was.
-pub fn next<'s, 'a>(r: &'s mut Reader<'a>) -> Frame
+pub(crate) fn next<'s, 'a>(r: &'s mut Reader<'a>) -> Frame
     ensures { λ d. ⌜ (d ≡ frameAt (now (now (r .entry) .log)) (now (r .entry) .at))
         × (now (r .exit) .log ≡ now (r .entry) .log)
         × (now (r .exit) .at ≡ behind d (now (r .entry) .at)) ⌝ }
