@@ -12,13 +12,13 @@ use lib.Dec.{eqb}
 use borrow.Author.Tests.{eqb-true, eqb-false}
 use Rattle.record.specs.Choice.{if_then_else_}
 use Rattle.record.specs.Number.{bigEndian, bytesOf, Bytes}
-use Rattle.record.specs.Frame.{frameAt, WholeFrame}
+use Rattle.record.specs.Frame.{frameAt}
 use Rattle.record.specs.Record.{kindOf, lengthOf, eventOf, encode, recordAt, decodeIn, decodeAt, sizeOf, valueIn, Small}
 use Rattle.record.specs.declared.frame.Frame.{Frame}
 use Rattle.record.specs.declared.frame.Frame.the-variants.{Framed, Cut}
 use Rattle.record.specs.declared.record.Record.{Record}
 use Rattle.record.specs.declared.record.Decoded.the-variants.{Found, Malformed}
-use Rattle.record.proofs.Laws.{frame-inverts}
+use Rattle.record.proofs.Laws.{WholeFrame, frame-inverts}
 use Rattle.record.proofs.Numbers.{number-back, number-small}
 use Rattle.record.proofs.Records.{kind-back, event-least, event-most, value-within, value-fills}
 use Rattle.reader.specs.Log.{logVersion, headerLength, maxRecords, maxLength, countField, encodeAll, encodeLog}

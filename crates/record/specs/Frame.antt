@@ -1,6 +1,5 @@
 -- Document 01, "The log": "Each record is one length byte L, then L bytes". What stands at a position, whatever its kind.
-use Prim.Native.Nat.{ℕ, _+_, _-_, _≤_}
-use mathlib.Core.Path.{_≡_}
+use Prim.Native.Nat.{ℕ, _+_, _-_}
 use mathlib.Core.List.{List}
 use lib.ListN.{length, getD}
 use lib.Dec.{ltb, leb, eqb}
@@ -16,9 +15,3 @@ frameAt bytes at =
     if ltb (length bytes - (at + 1)) (getD bytes at 0) then Cut wrongBytes else
     if eqb (getD bytes at 0) 0 then Cut wrongLength else
     Framed (at + 1 + getD bytes at 0)
-
--- A length byte L that is not 0 and L bytes more are there, up to where the next record starts.
-pub record WholeFrame (bytes : List ℕ) (at next : ℕ) : Type 0 where
-  pub ends : next ≡ at + 1 + getD bytes at 0
-  pub some : at + 2 ≤ next
-  pub there : next ≤ length bytes
