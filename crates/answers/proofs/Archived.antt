@@ -1,6 +1,6 @@
 -- Demand 3 in terms of the C calls: what yr_judge and yr_excerpt write for a readable log is its archive, so that the laws of the archive
 -- are laws of these calls.
-use Prim.Native.Nat.{ℕ, _/_, _%_, _≤_}
+use Prim.Native.Nat.{ℕ, _%_, _≤_}
 use native.Mathlib.Omega.{arith}
 use mathlib.Core.Path.{_≡_, refl, sym, ap, _∙_, subst}
 use mathlib.Core.Bool.{false}
@@ -28,12 +28,12 @@ use Rattle.judge.proofs.Laws.{long-enough, accepted-not-refused}
 use Rattle.projection.specs.Projection.{valuesOf, excerpted}
 use Rattle.projection.specs.Outcome.{excerptAnswer, excerptLeaves}
 use Rattle.projection.proofs.Laws.{projection-short, projection-fits, excerpt-of-pattern}
-use Rattle.archive.specs.Archive.{verdictByte, Archive, with-order, with-pattern}
+use Rattle.archive.specs.Archive.{verdictByte, Archive}
 use Rattle.archive.specs.Trade.{Traded}
 use Rattle.archive.proofs.Laws as archive
 use Rattle.answers.specs.Answer.{replayAnswer, JudgeAnswers, SmallOutput}
-use Rattle.answers.specs.Archived.{Wrote, JudgeWrote, ExcerptWrote}
-use Rattle.answers.proofs.Laws.{AcceptedWith, TurnedDown, of-log, JudgeSays, wrote, turned-down, judge-says, excerpt-small}
+use Rattle.answers.specs.Archived.{JudgeWrote, ExcerptWrote}
+use Rattle.answers.proofs.Laws.{of-log, JudgeSays, wrote, turned-down, judge-says, excerpt-small}
 
 -- What the answer of yr_judge says: the log was judged, and the sheet is what was written.
 judge-wrote : {log sheet : List ℕ} (c : JudgeWrote log sheet)

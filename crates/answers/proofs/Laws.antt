@@ -13,6 +13,7 @@ use Rattle.record.specs.Choice.{if_then_else_}
 use Rattle.record.specs.declared.record.Record.{Record}
 use Rattle.buffer.specs.Buffer.{bufferTooShort, lacksRoom, written}
 use Rattle.buffer.specs.Output.{writing, refusalUnit, refusal, outputAnswer}
+use Rattle.buffer.specs.declared.output.Output.{Output}
 use Rattle.buffer.specs.declared.output.Output.the-variants as output
 use Rattle.reader.specs.Log.{maxRecords, maxLength, Reading, readable, refused, readLog, checked, operations, encodeLog}
 use Rattle.reader.specs.Readable.{Within}
@@ -200,13 +201,14 @@ writing-untouched bytes out {number} {index} e = go (lacksRoom bytes out) e
     go false e = let z : _≡_ {A = ℕ} 0 1 = cc in absurd (omega arith)
 
 -- of narrowing
-pub narrow-untouched : (reading : Reading) (values out : List ℕ) {number index : ℕ} → narrowAnswer reading values out ≡ output.Refused number index
+narrow-untouched : (reading : Reading) (values out : List ℕ) {number index : ℕ} → narrowAnswer reading values out ≡ output.Refused number index
     → narrowLeaves reading values out ≡ out
 narrow-untouched (refused n i) values out e = refl
 narrow-untouched (readable records) values out e = writing-untouched (encodeLog (narrowed records values)) out e
 
 -- and of the excerpt
-pub excerpt-untouched : (reading : Reading) (out : List ℕ) {number index : ℕ} → excerptAnswer reading out ≡ output.Refused number index → excerptLeaves reading out ≡ out
+excerpt-untouched : (reading : Reading) (out : List ℕ) {number index : ℕ} → excerptAnswer reading out ≡ output.Refused number index
+    → excerptLeaves reading out ≡ out
 excerpt-untouched (refused n i) out e = refl
 excerpt-untouched (readable records) out {number} {index} e = go (first-violation Queue (historyOf records)) e
   where
@@ -214,6 +216,26 @@ excerpt-untouched (readable records) out {number} {index} e = go (first-violatio
         → excerptAnswerOf records found out ≡ output.Refused number index → excerptLeavesOf records found out ≡ out
     go (inl (n, listed, first)) e = writing-untouched (encodeLog (excerpted records listed)) out e
     go (inr clean) e = refl
+
+-- What the number of a call that writes a log says: so many bytes were written, or the call was refused and the buffer is as it was.
+pub data OutputSays (given : Output) (out : List ℕ) (answer : ℕ) (out' : List ℕ) : Type 0 where
+  writes : {n : ℕ} → given ≡ output.Written n → AcceptedWith answer n → OutputSays given out answer out'
+  refuses : {number index : ℕ} → given ≡ output.Refused number index → TurnedDown answer number index → out' ≡ out → OutputSays given out answer out'
+
+output-says : (given : Output) {out out' : List ℕ} {answer : ℕ} → SmallOutput given → answer ≡ outputAnswer given
+    → ((number index : ℕ) → given ≡ output.Refused number index → out' ≡ out) → OutputSays given out answer out'
+output-says (output.Written n) small e same = writes {n = n} refl (rw e (written-accepted n small))
+output-says (output.Refused number index) small e same = refuses {number = number} {index = index} refl (rw e (refused-turned-down number index small)) (same number index refl)
+
+-- of narrowing
+pub narrow-says : (log values out : List ℕ) {answer : ℕ} {out' : List ℕ} → answer ≡ outputAnswer (narrowAnswer (readLog log) values out)
+    → out' ≡ narrowLeaves (readLog log) values out → OutputSays (narrowAnswer (readLog log) values out) out answer out'
+narrow-says log values out e leaves = output-says _ (narrow-small log values out) e (λ number index is. leaves ∙ narrow-untouched (readLog log) values out is)
+
+-- of the excerpt of a log, or of what a session holds
+pub excerpt-says : {reading : Reading} → Known reading → (out : List ℕ) {answer : ℕ} {out' : List ℕ} → answer ≡ outputAnswer (excerptAnswer reading out)
+    → out' ≡ excerptLeaves reading out → OutputSays (excerptAnswer reading out) out answer out'
+excerpt-says {reading} known out e leaves = output-says _ (excerpt-small known out) e (λ number index is. leaves ∙ excerpt-untouched reading out is)
 
 -- Judging a log, or what a session holds, into one sheet has one answer and leaves one sheet.
 pub judges-one : {reading : Reading} → Known reading → {sheet left left' : List ℕ} {answer answer' : Verdict} → Judges reading sheet answer left → Judges reading sheet answer' left' → (answer ≡ answer') × (left ≡ left')

@@ -26,7 +26,7 @@ use Rattle.session.proofs.Bounds.{accepted-length, AnswerWithin, feed-within}
 use Rattle.session.proofs.Laws.{feeds-are, begin-accepted, feeds-accepted, fed-since, feeding-is-judging, sheet-is-judging, excerpt-is}
 use Rattle.answers.specs.Answer.{judgeAnswer, JudgeAnswers, SmallOutput}
 use Rattle.answers.specs.Session.{BeginAnswers, FeedAnswers, CloseAnswers, SheetAnswers, ExcerptAnswers, FeedsAnswer, none, more}
-use Rattle.answers.proofs.Laws.{AcceptedWith, TurnedDown, small-accepted, refusal-turned-down, session-known, judges-one, answers-one, excerpt-untouched, JudgeSays, wrote, turned-down, judge-says, written-accepted, refused-turned-down, excerpt-small}
+use Rattle.answers.proofs.Laws.{AcceptedWith, TurnedDown, small-accepted, refusal-turned-down, session-known, judges-one, answers-one, JudgeSays, wrote, turned-down, judge-says, written-accepted, refused-turned-down}
 
 -- What the number that begin answers says: three bytes were written and the session is open, or all is as it was.
 pub data BeginSays (stage used : ℕ) (buffer : List ℕ) (stage' used' : ℕ) (buffer' : List ℕ) (answer : ℕ) : Type 0 where
@@ -88,19 +88,6 @@ close-says {stage} {used} {stage'} {used'} {answer} {buffer} {sheet} {sheet'} a 
     go : JudgeSays (sessionReading openStage stage used buffer) sheet answer sheet' → CloseSays stage used buffer sheet stage' used' sheet' answer
     go (wrote accepted j e) = closes accepted j e (stage-by j ∙ closed accepted) (a .used-is)
     go (turned-down j e same) = refuses j e (stage-by j) (a .used-is) same
-
--- What the number that the excerpt of a session answers says: so many bytes were written, or the call was refused and the buffer is as it was.
-pub data ExcerptSays (stage used : ℕ) (buffer out : List ℕ) (answer : ℕ) (out' : List ℕ) : Type 0 where
-  writes : {n : ℕ} → excerptAnswer (sessionReading closedStage stage used buffer) out ≡ Written n → AcceptedWith answer n → out' ≡ excerptLeaves (sessionReading closedStage stage used buffer) out
-      → ExcerptSays stage used buffer out answer out'
-  refuses : {number index : ℕ} → excerptAnswer (sessionReading closedStage stage used buffer) out ≡ Refused number index → TurnedDown answer number index → out' ≡ out → ExcerptSays stage used buffer out answer out'
-
-pub excerpt-says : {stage used answer : ℕ} {buffer out out' : List ℕ} → ExcerptAnswers stage used buffer out answer out' → ExcerptSays stage used buffer out answer out'
-excerpt-says {stage} {used} {answer} {buffer} {out} {out'} a = go (excerptAnswer (sessionReading closedStage stage used buffer) out) refl (excerpt-small (session-known closedStage stage used buffer) out) (a .answers)
-  where
-    go : (given : Output) → excerptAnswer (sessionReading closedStage stage used buffer) out ≡ given → SmallOutput given → answer ≡ outputAnswer given → ExcerptSays stage used buffer out answer out'
-    go (Written n) e small is = writes {n = n} e (rw is (written-accepted n small)) (a .leaves)
-    go (Refused number index) e small is = refuses {number = number} {index = index} e (rw is (refused-turned-down number index small)) (a .leaves ∙ excerpt-untouched (sessionReading closedStage stage used buffer) out e)
 
 -- "For each entry the result, the session and every lent byte follow from the input, refusals too": begin, feed and excerpt are equations; closing and
 -- the sheet have one outcome.

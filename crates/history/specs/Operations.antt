@@ -68,7 +68,8 @@ historyOf records = record {
   end = length records;
 }
 
--- the operation that a client called last, by the records of the past, latest first: its call has as many calls before it as its number says
+-- the operation that a client called last, by the records of the past, latest first: its call has as many calls before it as its
+-- number says
 unfoldable pub latestOf : List Record → ℕ → ℕ
 latestOf [] client = 0
 latestOf (r ∷ past) client =

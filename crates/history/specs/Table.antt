@@ -86,7 +86,8 @@ pub record Filled (records : List Record) (old : List ℕ) (n count : ℕ) (call
   pub table-sized : length table ≡ tableLength
   pub untouched : Untouched count old table
   pub returned : (o : ℕ) → o < count → returnIndex records (callIndex records o) < n
-      → Told records table o (recordOf records (returnIndex records (callIndex records o)) .event) (returnIndex records (callIndex records o))
+      → Told records table o (recordOf records (returnIndex records (callIndex records o)) .event)
+      (returnIndex records (callIndex records o))
   pub pending : (o : ℕ) → o < count → n ≤ returnIndex records (callIndex records o) → Told records table o CallRemove (length records)
 
 -- There is room for one record more.

@@ -1,6 +1,6 @@
 -- Which fate of a remove that has not returned can succeed where leaving it out fails: that of the add which returns first of those
 -- that are not removed, and only under patterns 4 and 6. So one fate is tried at the most.
-use Prim.Native.Nat.{ℕ, _≤_, _<_}
+use Prim.Native.Nat.{ℕ, _≤_}
 use native.Mathlib.Omega.{arith}
 use native.Mathlib.Decide.{ℕ-discrete}
 use mathlib.Core.Path.{_≡_, sym}

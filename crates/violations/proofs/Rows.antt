@@ -1,12 +1,12 @@
 -- The runs of the tables have the verdicts that are given for them.
-use Prim.Native.Nat.{ℕ, _+_, _≤_, _<_}
+use Prim.Native.Nat.{ℕ, _≤_, _<_}
 use native.Mathlib.Decide.{decLt, decLe, ℕ-discrete}
-use mathlib.Core.Path.{_≡_, refl}
+use mathlib.Core.Path.{refl}
 use mathlib.Core.Bool.{decide}
-use mathlib.Core.Logic.{_⊎_, Dec·and, Dec·not}
+use mathlib.Core.Logic.{Dec·and, Dec·not}
 use Rattle.history.specs.Each.{Each}
 use Rattle.history.specs.Object.{Object, Queue, Cell}
-use Rattle.history.specs.History.{History, add, noKind, Returned, Lawful, Lone}
+use Rattle.history.specs.History.{History, noKind, Returned, Lawful, Lone}
 use Rattle.history.specs.Runs.{Holds, Correct}
 use Rattle.history.proofs.Deciding.{all-below?, implies?, equivalent?, some?}
 use Rattle.history.proofs.Rows.{each?, history, reading, rows-hold, rows-correct}

@@ -105,13 +105,13 @@ fn of_the_program() {
 fn of_sessions() {
     assert_noticed(
         "session len:3 begin close:3 close",
-        &["begin 3; close refused 24 0; close 01000000; state 1 3 - 010000"],
+        &["begin 3; close refused 24 0; close 01000000; state 1 3 -,-,-,-,-,-,-,- 010000"],
         &[
-            "begin 3; close refused 24 0; state 1 3 - 010000",
-            "begin 3; close refused 24 1; close 01000000; state 1 3 - 010000",
-            "begin 3; close refused 24 0; close 010000010000; state 1 3 - 010000",
-            "begin 3; close refused 24 0; close 01000000; state 0 3 - 010000",
-            "begin 3; close refused 24 0; close 01000000; state 1 3 - 010001",
+            "begin 3; close refused 24 0; state 1 3 -,-,-,-,-,-,-,- 010000",
+            "begin 3; close refused 24 1; close 01000000; state 1 3 -,-,-,-,-,-,-,- 010000",
+            "begin 3; close refused 24 0; close 010000010000; state 1 3 -,-,-,-,-,-,-,- 010000",
+            "begin 3; close refused 24 0; close 01000000; state 0 3 -,-,-,-,-,-,-,- 010000",
+            "begin 3; close refused 24 0; close 01000000; state 1 3 -,-,-,-,-,-,-,- 010001",
         ],
     );
 }
@@ -123,7 +123,7 @@ fn of_sessions_with_another_order() {
     let feeds = [0, 1, 2, 3].map(feed).join(" ");
     let answers = |sheet| {
         let fed = "feed 8; feed 8; feed 8; feed 8";
-        format!("begin 3; {fed}; close {sheet}; state 1 35 - {log}")
+        format!("begin 3; {fed}; close {sheet}; state 1 35 -,-,-,-,-,-,-,- {log}")
     };
     assert_noticed(
         &format!("session len:35 begin {feeds} close"),

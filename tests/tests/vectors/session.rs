@@ -113,12 +113,13 @@ fn told(given: &Given) -> Option<String> {
 }
 
 /// The answer of a line without the bookmarks, the third word of the state: sessions have none
-/// before change 12.
+/// before change 12, so none is set.
 fn without_bookmarks(answer: &str) -> String {
     let (answers, state) = answer.rsplit_once("state ").expect("a state");
     let fields: Vec<&str> = state.split_whitespace().collect();
-    let [stage, used, _, buffer] = fields[..] else {
+    let [stage, used, bookmarks, buffer] = fields[..] else {
         panic!("a state of no known form: {state}");
     };
+    assert_eq!(bookmarks, "-,-,-,-,-,-,-,-", "the bookmarks of {state}");
     format!("{answers}state {stage} {used} {buffer}")
 }

@@ -18,15 +18,15 @@ slice-write-out c = search needs
 write-count-requires : tie.Need-write-count-requires
 write-count-requires c κs = search needs
 
-same-length : tie.Need-same-length
-same-length c = omega (arith, length-set (c .before .before .before .before .before .args .out .now) 0 logVersion)
-
 returns : tie.Need-returns
 unfolding bytesOf
 returns c = let a = c .before .before .before .before .before .args in
     c .before .before .write-count .ensures
     ∙ ap (put 1 (bytesOf 2 (a .count))) (sets-eq (logVersion ∷ []) (a .out .now) 0 (omega arith))
     ∙ put-behind 0 (logVersion ∷ []) (bytesOf 2 (a .count)) (a .out .now) (omega arith)
+
+same-length : tie.Need-same-length
+same-length c = omega (arith, length-set (c .before .before .before .before .before .args .out .now) 0 logVersion)
 
 pub write-header-spec : {M : Type 1} → statement M
 write-header-spec = tie.close (tie.spec slice-write-out write-count-requires same-length returns)

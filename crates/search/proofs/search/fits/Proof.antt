@@ -1,6 +1,5 @@
 -- `fits` meets its contract.
 use native.Mathlib.Omega.{arith}
-use mathlib.Core.Path.{_≡_}
 use Rattle.history.specs.Table.{tabled}
 use Rattle.matching.proofs.Tests.{decided-less, decided-equal}
 use Rattle.search.specs.Searching.{Fit, adds, removes, empties}
