@@ -15,7 +15,7 @@ use Rattle.buffer.specs.Buffer.{bufferTooShort, lacksRoom, written}
 use Rattle.buffer.specs.Output.{writing, refusalUnit, refusal, outputAnswer}
 use Rattle.buffer.specs.declared.output.Output.{Output}
 use Rattle.buffer.specs.declared.output.Output.the-variants as output
-use Rattle.reader.specs.Log.{maxRecords, maxLength, Reading, readable, refused, readLog, checked, operations, encodeLog}
+use Rattle.reader.specs.Log.{maxLength, Reading, readable, refused, readLog, checked, operations, encodeLog}
 use Rattle.reader.specs.Readable.{Within}
 use Rattle.reader.proofs.Laws.{within, few-operations}
 use Rattle.history.specs.Object.{Queue}
@@ -36,7 +36,7 @@ use Rattle.projection.specs.Projection.{valuesOf, narrowed, excerpted}
 use Rattle.projection.specs.Outcome.{narrowAnswer, narrowLeaves, excerptAnswerOf, excerptAnswer, excerptLeavesOf, excerptLeaves}
 use Rattle.projection.proofs.Laws.{projection-short}
 use Rattle.session.specs.Session.{heldLog, stageRefusal, sessionReading}
-use Rattle.answers.specs.Answer.{checkAnswer, replayAnswer, judgeAnswer, JudgeAnswers, SmallCheck, SmallReplay, SmallVerdict, SmallOutput}
+use Rattle.answers.specs.Answer.{checkAnswer, replayAnswer, judgeAnswer, JudgeAnswers, SmallRefusal, SmallCheck, SmallReplay, SmallVerdict, SmallOutput}
 
 -- an answer that is accepted, with what it returns, and one that is refused
 pub record AcceptedWith (answer value : ℕ) : Type 0 where
@@ -163,11 +163,12 @@ pub refused-turned-down : (number index : ℕ) → SmallOutput (output.Refused n
 refused-turned-down number index small = refusal-turned-down number index (small .0) (omega (arith, small .1))
 
 -- of judging
-refused-verdict-small : {number index : ℕ} {sheet sheet' : List ℕ} {verdict : Verdict} → 1 ≤ number → index ≤ maxRecords → Judges (refused number index) sheet verdict sheet' → SmallVerdict verdict
-refused-verdict-small some few Judge.turned-down = (some, few)
+refused-verdict-small : {number index : ℕ} {sheet sheet' : List ℕ} {verdict : Verdict} → SmallRefusal number index
+    → Judges (refused number index) sheet verdict sheet' → SmallVerdict verdict
+refused-verdict-small small Judge.turned-down = small
 
 pub judges-small : {reading : Reading} → Known reading → {sheet sheet' : List ℕ} (verdict : Verdict) → Judges reading sheet verdict sheet' → SmallVerdict verdict
-judges-small (standing some) verdict j = refused-verdict-small some (omega arith) j
+judges-small (standing some) verdict j = refused-verdict-small (some, omega arith) j
 judges-small (of-log log) (judge.Order k) j = judged-at-most log j Judge.order
 judges-small (of-log log) (judge.Pattern number k) j = judged-at-most log j Judge.pattern
 judges-small (of-log log) (judge.Refused number index) j = judged-refusal log j

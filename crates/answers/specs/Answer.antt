@@ -38,22 +38,25 @@ pub record JudgeAnswers (reading : Reading) (sheet : List ℕ) (answer : ℕ) (s
   pub judges : Judges reading sheet verdict sheet'
   pub answers : answer ≡ judgeAnswer verdict
 
--- What an answer holds is small, so that its number fits: operations and bytes are those of a log, a sheet lists at most 682 operations,
--- and a refusal has a number and an index of at most 1,024.
+-- What an answer holds is small, so that its number fits: operations and bytes are those of a log, a sheet lists at most 682
+-- operations, and the index of a refusal is at most 1,024. A refusal's number is at least 1, so that it is told from an accepted call.
+abbrev pub SmallRefusal : ℕ → ℕ → Type 0
+SmallRefusal number index = (1 ≤ number) × (index ≤ maxRecords)
+
 abbrev pub SmallCheck : Checked → Type 0
 SmallCheck (check.Readable records operations) = operations ≤ maxRecords
-SmallCheck (check.Refused number index) = (1 ≤ number) × (index ≤ maxRecords)
+SmallCheck (check.Refused number index) = SmallRefusal number index
 
 abbrev pub SmallReplay : Replayed → Type 0
 SmallReplay replay.Yes = Unit {0}
 SmallReplay replay.No = Unit {0}
-SmallReplay (replay.Refused number index) = (1 ≤ number) × (index ≤ maxRecords)
+SmallReplay (replay.Refused number index) = SmallRefusal number index
 
 abbrev pub SmallVerdict : Verdict → Type 0
 SmallVerdict (judge.Order k) = k ≤ 682
 SmallVerdict (judge.Pattern number k) = k ≤ 682
-SmallVerdict (judge.Refused number index) = (1 ≤ number) × (index ≤ maxRecords)
+SmallVerdict (judge.Refused number index) = SmallRefusal number index
 
 abbrev pub SmallOutput : Output → Type 0
 SmallOutput (output.Written n) = n ≤ maxLength
-SmallOutput (output.Refused number index) = (1 ≤ number) × (index ≤ maxRecords)
+SmallOutput (output.Refused number index) = SmallRefusal number index
