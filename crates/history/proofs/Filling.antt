@@ -10,14 +10,13 @@ use borrow.Author.Tests.{lt-ltb, le-ltb}
 use Rattle.record.specs.declared.record.Event.the-variants.{CallRemove}
 use Rattle.record.specs.declared.record.Record.{Record}
 use Rattle.reader.specs.Log.{maxRecords, isCall, operations}
-use Rattle.reader.specs.Readable.{recordOf, asks, leaves, Next, Regular}
+use Rattle.reader.specs.Readable.{recordOf, asks, leaves, Regular}
 use Rattle.history.specs.Operations.{callIndex, returnIndex, kindBy, valueBy, positionOf, returnPosition, operationAt}
 use Rattle.history.specs.Owners.{Traced}
 use Rattle.history.specs.Table.{tableLength, Entered, Told, Filled, HistoryHeld}
-use Rattle.history.proofs.Numbering.{call-of, same-call, index-of-rank, rank-step, ranks-rise, ranks-below, return-is-next, next-is-return, next-of-one}
-use Rattle.history.proofs.Events.{leaves-call, asks-call}
+use Rattle.history.proofs.Numbering.{index-of-rank, rank-step, ranks-rise, ranks-below, next-is-return}
 use Rattle.history.proofs.Entries.{entry-stays}
-use Rattle.history.proofs.Owning.{operation-called, operation-answered, call-before}
+use Rattle.history.proofs.Owning.{operation-called, owner-called, operation-answered, call-before, operation-returned}
 use Rattle.history.proofs.Tracing.{traced-none}
 
 -- before the first record
@@ -41,19 +40,22 @@ module _ {records : List Record} (regular : Regular records) {n : ℕ} (h : n < 
   more : count' ≡ count + isCall (recordOf records n .event)
   more = omega (arith, rank-step records n h, filled .traced .counted, traced .counted)
 
+  -- no other operation returns here
+  alone : (p : ℕ) → p < count → returnIndex records (callIndex records p) ≡ n → p ≡ o
+  alone p l e =
+      sym (operation-returned regular p (omega (arith, filled .traced .counted, ranks-below records n)) (omega arith))
+      ∙ ap (operationAt records) e ∙ sym is
+
   -- one record more, which is a call
   module _ (c : isCall (recordOf records n .event) ≡ 1) where
     new : o ≡ count
     new = omega (arith, is, operation-called records n h c, filled .traced .counted)
 
     own : callIndex records o ≡ n
-    own = rw (is, operation-called records n h c) (index-of-rank records n h c)
+    own = rw is (owner-called records n h c)
 
     not-now : (p : ℕ) → p < count → returnIndex records (callIndex records p) ≡ n → ⊥
-    not-now p l e =
-        let next : Next records (callIndex records p) n = rw e at (return-is-next records (callIndex records p) (omega arith)) in
-        leaves-call (recordOf records (callIndex records p) .event) (call-of records p (omega (arith, filled .traced .counted, ranks-below records n)) .is-call)
-        (sym (regular .next (callIndex records p) n next) ∙ asks-call (recordOf records n .event) c)
+    not-now p l e = omega (arith, new, alone p l e)
 
     before : (p : ℕ) → p < count → returnIndex records (callIndex records p) < n + 1 → Dec (returnIndex records (callIndex records p) < n) → returnIndex records (callIndex records p) < n
     before p l r (yes b) = b
@@ -89,16 +91,6 @@ module _ {records : List Record} (regular : Regular records) {n : ℕ} (h : n < 
           returns = rw own (next-is-return records i n next);
           asked = rw own (sym (regular .next i n next));
         }
-
-    alone : (p : ℕ) → p < count → returnIndex records (callIndex records p) ≡ n → p ≡ o
-    alone p l e =
-        let ends : Ends records n count o = return-ends in
-        let same : callIndex records p ≡ callIndex records o =
-        next-of-one records (callIndex records p) (callIndex records o) n
-        (rw e at (return-is-next records (callIndex records p) (omega arith)))
-        (rw (ends .returns) at (return-is-next records (callIndex records o) (omega (arith, ends .returns)))) in
-        let few : (q : ℕ) → q < count → q < operations records = λ q m. omega (arith, filled .traced .counted, ranks-below records n) in
-        same-call records p o (few p l) (few o (ends .below)) same
 
     pub filled-return : {table' : List ℕ} → Entered table o (kindBy (recordOf records (callIndex records o) .event) (recordOf records n .event)) (valueBy (recordOf records (callIndex records o) .event) (recordOf records n .event)) (callIndex records o) n table'
         → Filled records old (n + 1) count' callers' recent' table'

@@ -4,8 +4,10 @@ use native.Mathlib.Omega.{arith}
 use native.Mathlib.Decide.{decLt}
 use mathlib.Core.Path.{_≡_, refl, sym, ap, _∙_}
 use mathlib.Core.List.{List}
-use lib.ListN.{length}
+use lib.ListN.{length, List·getD-eq-default}
 use borrow.Author.Tests.{lt-ltb, le-ltb}
+use Rattle.record.specs.Number.{Bytes}
+use Rattle.record.specs.Record.{valueIn}
 use Rattle.record.specs.declared.record.Removed.{Removed}
 use Rattle.record.specs.declared.record.Removed.the-variants.{Value, Empty}
 use Rattle.record.specs.declared.record.Event.{Event}
@@ -13,8 +15,9 @@ use Rattle.record.specs.declared.record.Event.the-variants.{CallAdd, CallRemove
 use Rattle.record.specs.declared.record.Record.{Record}
 use Rattle.reader.specs.Log.{isCall, operations}
 use Rattle.reader.specs.Readable.{recordOf, asks, leaves, ReadableLog}
+use Rattle.reader.proofs.Laws.{readable-orderly}
 use Rattle.history.specs.History.{add, emptyRemove, Returned, Lawful, RemovesReturned}
-use Rattle.history.specs.Operations.{callIndex, returnIndex, positionOf, historyOf}
+use Rattle.history.specs.Operations.{callIndex, returnIndex, valueBy, positionOf, historyOf}
 use Rattle.history.proofs.Numbering.{Called, call-of, same-call, calls-rise, return-is-next, next-is-return, next-of-one}
 use Rattle.history.proofs.Events.{asks-call, leaves-call, asks-remove}
 use Rattle.history.proofs.Positions.{position-within, position-apart, position-next, position-calls, position-returned}
@@ -147,3 +150,23 @@ history-lawful {records = records} readable = record {
   numbered = λ o p l h. position-calls (readable .partial) (callIndex records o) (callIndex records p) (calls-rise records o p l h) (call-of records p h .below) (call-of records o (omega arith) .is-call) (call-of records p h .is-call);
   once = once readable;
 }
+
+-- the values of operations fit their four bytes
+value-small : (call return : Event) → valueIn call < 4294967296 → valueIn return < 4294967296 → valueBy call return < 4294967296
+value-small (CallAdd v) return h k = h
+value-small CallRemove return h k = k
+value-small ReturnAdd return h k = omega arith
+value-small (ReturnRemove x) return h k = omega arith
+
+pub history-values : {log : List ℕ} {records : List Record} → ReadableLog log records → Bytes log → (o : ℕ) → o < operations records
+    → historyOf records .value o < 4294967296
+history-values {records = records} readable bytes o h =
+    value-small (recordOf records (callIndex records o) .event) (recordOf records (returnIndex records (callIndex records o)) .event)
+    (small (callIndex records o)) (small (returnIndex records (callIndex records o)))
+  where
+    small : (i : ℕ) → valueIn (recordOf records i .event) < 4294967296
+    small i = go (decLt i (length records))
+      where
+        go : Dec (i < length records) → valueIn (recordOf records i .event) < 4294967296
+        go (yes l) = readable-orderly readable bytes .small i l .value
+        go (no l) = rw (List·getD-eq-default records (record { client = 0; tick = 0; event = CallRemove }) {n = i} (omega arith)) (omega arith)

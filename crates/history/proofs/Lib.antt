@@ -1,4 +1,5 @@
 pub mod Agreeing
+pub mod Along
 pub mod Basics
 pub mod Counting
 pub mod Deciding

@@ -10,8 +10,8 @@ use Rattle.record.specs.declared.record.Record.{Record}
 use Rattle.reader.specs.Log.{isCall, operations}
 use Rattle.reader.specs.Readable.{recordOf, asks, Next, Regular}
 use Rattle.reader.proofs.Laws.{called}
-use Rattle.history.specs.Operations.{callIndex, latestOf, operationFrom, operationAt}
-use Rattle.history.proofs.Numbering.{Called, call-of, rank-known}
+use Rattle.history.specs.Operations.{callIndex, returnIndex, latestOf, operationFrom, operationAt}
+use Rattle.history.proofs.Numbering.{Called, call-of, index-of-rank, rank-known, return-is-next, next-is-return}
 use Rattle.history.proofs.Events.{leaves-call, asks-call, call-leaves, return-asks, isCall-small}
 
 -- no call of a client
@@ -63,6 +63,11 @@ pub operation-called : (records : List Record) (i : ℕ) → i < length records 
 unfolding operations
 operation-called records i h c = omega (arith, operation-of-call [] records i i (omega arith) h c refl (λ k l m. absurd (omega arith)))
 
+-- so it is that operation's call
+pub owner-called : (records : List Record) (i : ℕ) → i < length records → isCall (recordOf records i .event) ≡ 1
+    → callIndex records (operationAt records i) ≡ i
+owner-called records i h c = rw (operation-called records i h c) (index-of-rank records i h c)
+
 -- the call of an operation is of that operation
 pub operation-own : (records : List Record) (o : ℕ) → o < operations records → operationAt records (callIndex records o) ≡ o
 operation-own records o h = let call : Called records o = call-of records o h in operation-called records (callIndex records o) (call .below) (call .is-call) ∙ call .rank
@@ -89,6 +94,20 @@ module _ {records : List Record} (regular : Regular records) where
       let asked = return-asks (recordOf records n .event) c in
       let (i, next) = called regular n h asked in
       (i, next, call-leaves (recordOf records i .event) (λ e. asked (regular .next i n next ∙ e)))
+
+  -- so it is its operation's return
+  pub owner-returned : (n : ℕ) → n < length records → isCall (recordOf records n .event) ≡ 0 → returnIndex records (callIndex records (operationAt records n)) ≡ n
+  owner-returned n h c =
+      let (i, next, call) = call-before n h c in
+      rw (operation-answered i n next call, index-of-rank records i (omega (arith, next .later)) call) (next-is-return records i n next)
+
+  -- the return of an operation is of that operation
+  pub operation-returned : (o : ℕ) → o < operations records → returnIndex records (callIndex records o) < length records
+      → operationAt records (returnIndex records (callIndex records o)) ≡ o
+  operation-returned o h l =
+      let call : Called records o = call-of records o h in
+      operation-answered (callIndex records o) (returnIndex records (callIndex records o)) (return-is-next records (callIndex records o) l) (call .is-call)
+      ∙ call .rank
 
   -- the operation of a record is one of the log
   pub operation-known : (n : ℕ) → n < length records → operationAt records n < operations records

@@ -12,7 +12,7 @@ use Rattle.reader.specs.declared.log.Checked.the-variants.{Readable}
 use Rattle.reader.proofs.Laws.{within, checked-readable, few-operations}
 use Rattle.history.specs.History.{History}
 use Rattle.history.specs.Operations.{historyOf}
-use Rattle.history.specs.Table.{tabled, Agree, Tabulated}
+use Rattle.history.specs.Table.{tabled, Agree, Tabulated, TableOf}
 
 pub record Tabled (log : List ℕ) (count end : ℕ) (table : List ℕ) : Type 0 where
   pub records : List Record
@@ -41,3 +41,9 @@ log-tabled log {end = end} {count = count} e f before table tabulated =
       short = omega arith;
       agree = tabled-same table (historyOf records) counted ended (held .agree);
     }
+
+-- the same as contracts say it
+pub table-of : {log : List ℕ} {answer : Checked} {n m : ℕ} (before : List ℕ) {table : List ℕ} → answer ≡ checked (readLog log) → answer ≡ Readable n m → Tabulated (readLog log) before table → TableOf log n m table
+table-of {log} before {table} e f tabulated =
+    let t = log-tabled log e f before table tabulated in
+    record { whole = record { records = t .records; reads = t .reads; counted = t .ended }; counted = t .counted; agree = t .agree }

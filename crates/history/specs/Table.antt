@@ -107,3 +107,12 @@ pub record Whole (log : List ℕ) (count : ℕ) : Type 0 where
   pub records : List Record
   pub reads : readLog log ≡ readable records
   pub counted : length records ≡ count
+
+-- The table holds the operations of a readable log.
+pub record TableOf (log : List ℕ) (end count : ℕ) (table : List ℕ) : Type 0 where
+  -- the log is readable, and has so many records
+  pub whole : Whole log end
+  -- they call so many operations
+  pub counted : operations (whole .records) ≡ count
+  -- which the table holds
+  pub agree : Agree (tabled count end table) (historyOf (whole .records))

@@ -17,7 +17,7 @@ pub struct Owner {
 }
 
 // 1 for a call, 0 for a return.
-fn is_call(event: Event) -> usize
+pub fn is_call(event: Event) -> usize
     ensures { λ r. ⌜ r ≡ isCall event ⌝ }
 {
     match event {

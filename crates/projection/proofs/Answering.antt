@@ -11,14 +11,13 @@ use Rattle.reader.specs.declared.log.Checked.{Checked}
 use Rattle.reader.specs.declared.log.Checked.the-variants as check
 use Rattle.reader.proofs.Laws.{checked-refused, few-operations}
 use Rattle.history.specs.Operations.{historyOf, operationAt}
-use Rattle.history.specs.Table.{Tabulated}
+use Rattle.history.specs.Table.{TableOf}
+use Rattle.history.proofs.Along.{whole-readable, whole-one}
 use Rattle.history.proofs.Owning.{operation-known}
-use Rattle.history.proofs.Tabulating.{log-tabled}
 use Rattle.projection.specs.Projection.{keeps, projection}
 use Rattle.projection.specs.Outcome.{narrowAnswer, narrowLeaves}
-use Rattle.projection.specs.Marks.{isSet, keepsIn, TableOf, KeptAre}
+use Rattle.projection.specs.Marks.{isSet, keepsIn, KeptAre}
 use Rattle.projection.specs.Copies.{keptRecords, Writes}
-use Rattle.projection.proofs.Along.{whole-readable, whole-one}
 use Rattle.projection.proofs.Selecting.{keep-same}
 use Rattle.projection.proofs.Projecting.{writes-same}
 
@@ -26,12 +25,6 @@ use Rattle.projection.proofs.Projecting.{writes-same}
 pub narrow-refused : (log values out : List ℕ) {answer : Checked} {number index : ℕ} → answer ≡ checked (readLog log) → answer ≡ check.Refused number index
     → (Refused number index ≡ narrowAnswer (readLog log) values out) × (out ≡ narrowLeaves (readLog log) values out)
 narrow-refused log values out {number = number} {index = index} e f = let reads : readLog log ≡ refused number index = checked-refused (readLog log) (sym e ∙ f) in rw reads (refl, refl)
-
--- a log that is readable, and the table of its operations
-pub table-of : {log : List ℕ} {answer : Checked} {n m : ℕ} (before : List ℕ) {table : List ℕ} → answer ≡ checked (readLog log) → answer ≡ check.Readable n m → Tabulated (readLog log) before table → TableOf log n m table
-table-of {log} before {table} e f tabulated =
-    let t = log-tabled log e f before table tabulated in
-    record { whole = record { records = t .records; reads = t .reads; counted = t .ended }; counted = t .counted; agree = t .agree }
 
 module _ {log : List ℕ} {n m : ℕ} {table : List ℕ} (of : TableOf log n m table) where
   pub count-small : m ≤ maxRecords

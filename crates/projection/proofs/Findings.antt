@@ -19,7 +19,8 @@ use Rattle.history.specs.Each.{Each}
 use Rattle.history.specs.History.{History, Lawful}
 use Rattle.history.specs.Operations.{historyOf}
 use Rattle.history.specs.Sheet.{orderVerdict}
-use Rattle.history.specs.Table.{tabled, Agree}
+use Rattle.history.specs.Table.{tabled, Agree, TableOf}
+use Rattle.history.proofs.Along.{whole-readable}
 use Rattle.history.proofs.Agreeing.{agree-sym}
 use Rattle.history.proofs.Laws.{history-lawful}
 use Rattle.violations.specs.Violations.{NoViolation}
@@ -29,10 +30,9 @@ use Rattle.matching.specs.Held.{Held}
 use Rattle.judge.specs.Decision.{Decided}
 use Rattle.projection.specs.Projection.{valuesOf, projection, excerpted}
 use Rattle.projection.specs.Outcome.{noPattern, excerptAnswerOf, excerptLeavesOf, excerptAnswer, excerptLeaves}
-use Rattle.projection.specs.Marks.{entriesOf, TableOf}
+use Rattle.projection.specs.Marks.{entriesOf}
 use Rattle.projection.specs.Listed.{Listable}
 use Rattle.projection.specs.Copies.{Writes}
-use Rattle.projection.proofs.Along.{whole-readable}
 use Rattle.projection.proofs.Answering.{count-small}
 
 -- a log that is refused

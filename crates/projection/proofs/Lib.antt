@@ -1,9 +1,9 @@
-pub mod Along
 pub mod Answering
 pub mod Choosing
 pub mod Chosen
 pub mod Collecting
 pub mod Findings
+pub mod Framing
 pub mod Laws
 pub mod Marking
 pub mod Measuring

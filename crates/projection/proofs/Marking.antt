@@ -15,10 +15,10 @@ use Rattle.history.specs.Operations.{operationAt}
 use Rattle.history.specs.Owners.{Traced, CallersRoom, Owned}
 use Rattle.history.specs.Table.{Whole}
 use Rattle.history.specs.declared.owners.Owner.{Owner}
+use Rattle.history.proofs.Along.{whole-one, Along, along-start, along-found, along-here, along-next}
 use Rattle.history.proofs.Basics.{up-to}
 use Rattle.history.proofs.Tracing.{traced-none, traced-room}
 use Rattle.projection.specs.Marks.{MarksAre}
-use Rattle.projection.proofs.Along.{whole-one, Along, along-start, along-found, along-here, along-next}
 
 -- The loop of `mark` has come to record i.
 pub record Marking (log : List ℕ) (end : ℕ) (kept callers recent marks : List ℕ) (at count i : ℕ) : Type 0 where

@@ -10,9 +10,10 @@ use Rattle.record.specs.Record.{sizeOf}
 use Rattle.reader.specs.Log.{headerLength, maxRecords, maxLength}
 use Rattle.reader.specs.Readable.{recordOf, sizes}
 use Rattle.history.specs.Table.{Whole}
+use Rattle.history.proofs.Along.{whole-one, Along, along-start}
 use Rattle.projection.specs.Marks.{isSet}
 use Rattle.projection.specs.Copies.{chosen, ifSet, Measured}
-use Rattle.projection.proofs.Along.{whole-one, Along, along-start, along-behind, along-size, along-within}
+use Rattle.projection.proofs.Framing.{along-behind, along-size, along-within}
 use Rattle.projection.proofs.Chosen.{chosen-count, chosen-size}
 use Rattle.projection.proofs.Sizes.{offset-within}
 

@@ -16,9 +16,10 @@ use Rattle.buffer.proofs.Copying.{put-nothing, put-length, put-behind}
 use Rattle.reader.specs.Log.{headerLength, maxRecords, encodeAll}
 use Rattle.reader.specs.Readable.{recordOf, sizes}
 use Rattle.history.specs.Table.{Whole}
+use Rattle.history.proofs.Along.{whole-one, Along, along-start}
 use Rattle.projection.specs.Marks.{isSet}
 use Rattle.projection.specs.Copies.{chosen, marked, ifSet, RoomFor, Copied}
-use Rattle.projection.proofs.Along.{whole-one, Along, along-start, along-behind, along-size, along-within}
+use Rattle.projection.proofs.Framing.{along-behind, along-size, along-within}
 use Rattle.projection.proofs.Chosen.{chosen-size, chosen-bytes, chosen-rises}
 use Rattle.projection.proofs.Sizes.{sizes-are, record-bytes}
 

@@ -29,15 +29,6 @@ entriesOf table = tabled maxRecords maxRecords table
 abbrev pub keepsIn : List ℕ → List ℕ → List ℕ → ℕ → Bool
 keepsIn table empties values o = keeps (entriesOf table) empties values o
 
--- The table holds the operations of a readable log.
-pub record TableOf (log : List ℕ) (end count : ℕ) (table : List ℕ) : Type 0 where
-  -- the log is readable, and has so many records
-  pub whole : Whole log end
-  -- they call so many operations
-  pub counted : operations (whole .records) ≡ count
-  -- which the table tells
-  pub agree : Agree (tabled count end table) (historyOf (whole .records))
-
 -- Of the first `count` operations of a table just those are marked that are kept.
 pub record KeptAre (table : List ℕ) (count : ℕ) (empties values kept : List ℕ) : Type 0 where
   pub sized : length kept ≡ maxRecords

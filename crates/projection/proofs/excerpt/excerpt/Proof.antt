@@ -2,7 +2,7 @@
 use borrow.Author.Needs.{needs}
 use Rattle.projection.proofs.excerpt.excerpt.Statement.{statement}
 use Rattle.projection.proofs.excerpt.excerpt.Tie as tie
-use Rattle.projection.proofs.Answering.{table-of}
+use Rattle.history.proofs.Tabulating.{table-of}
 use Rattle.projection.proofs.Findings.{excerpt-refused}
 
 tabulate-requires : tie.Need-tabulate-requires

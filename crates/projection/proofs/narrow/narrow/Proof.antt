@@ -1,8 +1,9 @@
 -- `narrow` meets its contract: the table agrees with the log's history, so that the operations on the values are kept.
 use borrow.Author.Needs.{needs}
+use Rattle.history.proofs.Tabulating.{table-of}
 use Rattle.projection.proofs.narrow.narrow.Statement.{statement}
 use Rattle.projection.proofs.narrow.narrow.Tie as tie
-use Rattle.projection.proofs.Answering.{narrow-refused, table-of, count-small, writes-projection, narrow-readable}
+use Rattle.projection.proofs.Answering.{narrow-refused, count-small, writes-projection, narrow-readable}
 
 tabulate-requires : tie.Need-tabulate-requires
 tabulate-requires c κs = search needs

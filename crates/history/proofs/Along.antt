@@ -4,18 +4,14 @@ use native.Mathlib.Omega.{arith}
 use mathlib.Core.Path.{_≡_, refl, sym, _∙_}
 use mathlib.Core.List.{List}
 use lib.ListN.{length}
-use Rattle.record.specs.Cursor.{behind}
-use Rattle.record.specs.Frame.{frameAt}
-use Rattle.record.specs.Record.{decodeAt, sizeOf}
+use Rattle.record.specs.Record.{decodeAt}
 use Rattle.record.specs.declared.record.Record.{Record}
 use Rattle.record.specs.declared.record.Decoded.{Decoded}
 use Rattle.record.specs.declared.record.Decoded.the-variants.{Found, Malformed}
 use Rattle.reader.specs.Log.{headerLength, readable, readLog}
 use Rattle.reader.specs.Readable.{recordOf, sizes, offsetOf, ReadableLog}
-use Rattle.reader.proofs.Bytes.{decode-inverts}
 use Rattle.reader.proofs.Laws.{readable-log}
 use Rattle.history.specs.Table.{Whole}
-use Rattle.projection.proofs.Sizes.{offset-more, offset-within}
 
 -- The loop has come to record i.
 pub record Along (log : List ℕ) (records : List Record) (at i : ℕ) : Type 0 where
@@ -40,7 +36,7 @@ along-start whole = record { readable = whole-readable whole; within = omega ari
 
 module _ {log : List ℕ} {records : List Record} {at i : ℕ} (along : Along log records at i) (l : i < length records) where
   -- there is a record
-  along-record : decodeAt log at ≡ Found (recordOf records i) (offsetOf records (i + 1))
+  pub along-record : decodeAt log at ≡ Found (recordOf records i) (offsetOf records (i + 1))
   along-record = rw (along .stands) (along .readable .partial .stands i l)
 
   pub along-found : {number : ℕ} {d : Decoded} → d ≡ decodeAt log at → d ≡ Malformed number → ⊥
@@ -55,17 +51,3 @@ module _ {log : List ℕ} {records : List Record} {at i : ℕ} (along : Along lo
     -- the next one stands behind it
     pub along-next : Along log records next (i + 1)
     along-next = let found = along-record in record { readable = along .readable; within = omega arith; stands = cc }
-
-  -- the same for a reader that has read it
-  module _ {next : ℕ} (e : next ≡ behind (frameAt log at) at) where
-    behind-it : next ≡ offsetOf records (i + 1)
-    behind-it = rw (decode-inverts log at along-record .framed) at e
-
-    pub along-behind : Along log records next (i + 1)
-    along-behind = record { readable = along .readable; within = omega arith; stands = behind-it }
-
-    pub along-size : next ≡ at + sizeOf (recordOf records i)
-    along-size = omega (arith, behind-it, along .stands, offset-more records i l)
-
-    pub along-within : next ≤ length log
-    along-within = omega (arith, behind-it, offset-within (along .readable .partial) (i + 1))
