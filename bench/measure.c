@@ -1,9 +1,10 @@
 /*
  * Calls one entry on one log, for bench/instructions to count. The arguments name the entry and the
  * log. Prints the log's records, operations and bytes, and how many operations the order lists that
- * replay is handed, and those that the judge lists. Replay is not called on a log with a pattern. A
- * feed is that of the log's last record to a session that holds the others, so it is not called on
- * the log of no records. A session is begun, fed all records of the log and closed.
+ * replay is handed, and those that the judge lists. Replay is not called on a log with a pattern, and
+ * the page not on one of too many records. A feed is that of the log's last record to a session that
+ * holds the others, so it is not called on the log of no records. A session is begun, fed all records
+ * of the log and closed.
  */
 
 #include <stdio.h>
@@ -125,11 +126,13 @@ static const struct sample samples[] = {
     {"late-4", 512, 4, 3, late_4},
     {"late-5", 512, 5, 4, late_5},
     {"late-6", 512, 6, 2, late_6},
+    {"63-records", 32, 0, 31, log_simulate_page},
     {"empty", 0, 0, 0, empty},
 };
 
 static yr_answer answer;
 static uint8_t judged[YR_SHEET_MAX];
+static uint8_t page[YR_PAGE_MAX];
 static struct held held;
 
 /* The calls that are counted, with all they call. Storing the answer keeps them from being jumps. */
@@ -137,6 +140,7 @@ __attribute__((noinline, noclone)) void measured_check(const struct log *log);
 __attribute__((noinline, noclone)) void measured_replay(const struct log *log,
                                                         const struct sheet *order);
 __attribute__((noinline, noclone)) void measured_judge(const struct log *log);
+__attribute__((noinline, noclone)) void measured_page(const struct log *log);
 __attribute__((noinline, noclone)) void measured_feed(const struct log *log);
 __attribute__((noinline, noclone)) void measured_session(const struct log *log);
 
@@ -153,6 +157,11 @@ void measured_replay(const struct log *log, const struct sheet *order)
 void measured_judge(const struct log *log)
 {
     answer = yr_judge(log->bytes, log->length, judged, sizeof judged);
+}
+
+void measured_page(const struct log *log)
+{
+    answer = yr_page(log->bytes, log->length, page, sizeof page);
 }
 
 /* Feeds the record of the log that the session is to hold next. */
@@ -194,6 +203,10 @@ static int call(const char *entry, const struct sample *sample, const struct log
     if (strcmp(entry, "judge") == 0) {
         measured_judge(log);
         return is_judged(sample);
+    }
+    if (strcmp(entry, "page") == 0 && log->records <= YR_PAGE_RECORDS) {
+        measured_page(log);
+        return answer == YR_PAGE_MAX / YR_PAGE_RECORDS * sample->operations;
     }
     if (strcmp(entry, "feed") == 0 && log->records > 0) {
         hold(&held, YR_OPEN, log, log->records - 1);

@@ -1,5 +1,5 @@
 /*
- * yauponroof.h - a judge for logs of queue operations, version 0.5.0
+ * yauponroof.h - a judge for logs of queue operations, version 0.6.0
  *
  * A log tells the calls and the returns of operations on one queue, made by any number of clients.
  * yr_check says whether the log is readable and how many operations it has, or which record is at
@@ -7,8 +7,9 @@
  * order of the operations, in which one queue that did them, each between its call and its return,
  * would have answered as the log tells; or a numbered pattern that rules every order out. yr_replay
  * says whether the order on a sheet is legal for a log, whoever made it. yr_excerpt writes the part
- * of a log that shows its pattern, and yr_narrow the part that is about some values. A session takes
- * the records of a log one at a time, and closing it writes the sheet of the whole log.
+ * of a log that shows its pattern, and yr_narrow the part that is about some values. yr_page draws a
+ * short log as lines of text, for people to look at. A session takes the records of a log one at a
+ * time, and closing it writes the sheet of the whole log.
  *
  * Link with libyauponroof.a (Linux on x86-64), which needs memset of the C library and nothing else.
  * What the functions declared here answer is proved. This header is not: it is held against the
@@ -79,6 +80,24 @@
  * The lowest number that occurs is told. If it occurs more than once, the lowest list is told,
  * compared left to right.
  *
+ * The page
+ * --------
+ * A readable log of at most YR_PAGE_RECORDS records has a page, which shows the run to people, in
+ * ASCII. It has one line for each operation, in the order of their numbers, and each line has 80
+ * characters and a line feed:
+ *
+ *     1 to 4    the number of the operation, right-aligned
+ *     5         a space
+ *     6 to 16   left-aligned: A for an add or R for a remove, and the value in decimal without
+ *               leading zeros; or E alone for a remove that returned empty
+ *     17        a space
+ *     18 to 80  one character for each record, in the order of the log: # from the call of the
+ *               operation to its return, both included, or to the last record if it has not
+ *               returned; a dot for any other record; spaces after the last record
+ *
+ * The page of the log of no records is empty. An excerpt is a log of its own: its page has the
+ * operation numbers of the excerpt, which are those on the excerpt's own sheet.
+ *
  * Sessions
  * --------
  * A session is a yr_session, which carries its stage, open or closed, and the number of bytes used,
@@ -117,9 +136,9 @@
 extern "C" {
 #endif
 
-#define YR_VERSION "0.5.0"
+#define YR_VERSION "0.6.0"
 #define YR_VERSION_MAJOR 0
-#define YR_VERSION_MINOR 5
+#define YR_VERSION_MINOR 6
 #define YR_VERSION_PATCH 0
 
 /* The most records that a log may have. */
@@ -140,6 +159,12 @@ extern "C" {
  * that as well.
  */
 #define YR_SHEET_MAX 1368
+
+/* The most records of a log that has a page. */
+#define YR_PAGE_RECORDS 63
+
+/* The most bytes of a page: 81 for each of 63 operations. */
+#define YR_PAGE_MAX 5103
 
 /*
  * What every function answers. The high 32 bits are 0 if the call was accepted, and otherwise the
@@ -168,13 +193,14 @@ typedef struct yr_session {
 } yr_session;
 
 /*
- * All refusals. Those from 1 to 11 concern what was handed in, those from 20 on how things stand.
- * A refused call writes to no buffer, and leaves the session as it was.
+ * All refusals. Those from 1 to 11, and 30, concern what was handed in, those from 20 to 25 how
+ * things stand. A refused call writes to no buffer, and leaves the session as it was.
  *
  *     yr_check                1 to 10
  *     yr_replay               1 to 11
  *     yr_judge, yr_narrow     1 to 10, 24
  *     yr_excerpt              1 to 10, 23, 24
+ *     yr_page                 1 to 10, 24, 30
  *     yr_begin                24
  *     yr_feed                 1, 4 to 9, 20, 21, 24, 25
  *     yr_close                10, 20, 24, 25
@@ -203,9 +229,10 @@ enum yr_refusal {
     YR_REFUSAL_ORDER = 23,           /* excerpt where the verdict is an order */
     YR_REFUSAL_BUFFER = 24,          /* a buffer too short for the complete answer, or for the fed
                                         record, or under 3 bytes at the beginning of a session */
-    YR_REFUSAL_SESSION = 25          /* the session's stage or used bytes do not fit its buffer, or
+    YR_REFUSAL_SESSION = 25,         /* the session's stage or used bytes do not fit its buffer, or
                                         the bytes are no readable log (of an open session: readable
                                         but for 10) */
+    YR_REFUSAL_PAGE = 30             /* the page of a log of more than YR_PAGE_RECORDS records */
 };
 
 /*
@@ -351,6 +378,30 @@ yr_answer yr_excerpt(const uint8_t *log, size_t log_len, uint8_t *out, size_t ou
  */
 yr_answer yr_narrow(const uint8_t *log, size_t log_len, const uint32_t *values, size_t count,
                     uint8_t *out, size_t out_len);
+
+/*
+ * Writes the page of a log: one line of text for each operation, as described above under "The page".
+ *
+ * In:   log       the log_len bytes of the log; never NULL, not even if log_len is 0
+ *       log_len   any length; above YR_LOG_MAX no log is readable
+ *       page      page_len bytes to write to, apart from the log; never NULL, not even if page_len is
+ *                 0; what they hold before does not matter
+ *       page_len  any length; YR_PAGE_MAX is always enough
+ * Out:  accepted, with the number of bytes written, which is 81 for each operation, at most
+ *       YR_PAGE_MAX, and 0 for the log of no records; otherwise one of the refusals below.
+ *
+ * The first test that fails decides, in this order:
+ *
+ *     1 to 10  the log is not readable: the refusal and the index that yr_check gives, whatever
+ *              page_len is
+ *     30       the log has more than YR_PAGE_RECORDS records, whatever page_len is (index 0)
+ *     24       page_len is below 81 for each operation (index 0)
+ *
+ * An accepted call writes the bytes of the page and leaves those after them as they were; no zero
+ * follows the page. A refused call leaves all as they were. The log is never written to. Less than
+ * 64 KiB of stack is used (46.8 KB measured).
+ */
+yr_answer yr_page(const uint8_t *log, size_t log_len, uint8_t *page, size_t page_len);
 
 /*
  * Begins a session, which then is open and holds the log of no records.

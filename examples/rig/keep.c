@@ -51,14 +51,34 @@ static int remove_file(const char *folder, const char *name, const char *ending)
     return 1;
 }
 
+/* Writes the page, or removes that of an earlier run if there is none. */
+static int keep_page(const char *folder, const char *name, const struct page *page)
+{
+    return page->length == 0
+               ? remove_file(folder, name, ".excerpt.page")
+               : write_file(folder, name, ".excerpt.page", page->bytes, page->length);
+}
+
+static int keep_excerpt(const char *folder, const char *name, const struct verdict *verdict)
+{
+    const struct log *excerpt = &verdict->excerpt;
+    return write_file(folder, name, ".excerpt.log", excerpt->bytes, excerpt->length) &&
+           keep_page(folder, name, &verdict->excerpt_page);
+}
+
+/* Removes the excerpt of an earlier run, and its page. */
+static int remove_excerpt(const char *folder, const char *name)
+{
+    return remove_file(folder, name, ".excerpt.log") &&
+           remove_file(folder, name, ".excerpt.page");
+}
+
 int keep(const char *folder, const char *name, const struct log *log,
          const struct verdict *verdict)
 {
     const struct sheet *sheet = &verdict->sheet;
-    const struct log *excerpt = &verdict->excerpt;
     return write_file(folder, name, ".log", log->bytes, log->length) &&
            write_file(folder, name, ".sheet", sheet->bytes, sheet->length) &&
-           (sheet_verdict(sheet) == 0
-                ? remove_file(folder, name, ".excerpt.log")
-                : write_file(folder, name, ".excerpt.log", excerpt->bytes, excerpt->length));
+           (sheet_verdict(sheet) == 0 ? remove_excerpt(folder, name)
+                                      : keep_excerpt(folder, name, verdict));
 }

@@ -154,6 +154,17 @@ static void tell_sheet(const struct sheet *sheet, const struct record *records)
     tell_list(sheet, records);
 }
 
+/* The page of an excerpt as it was written, or that there is none. */
+static void tell_page(const struct page *page)
+{
+    if (page->length == 0) {
+        printf("the excerpt has no page: it has more than %d records\n", YR_PAGE_RECORDS);
+        return;
+    }
+    printf("the excerpt's page, a line for each operation and a column for each record:\n");
+    fwrite(page->bytes, 1, page->length, stdout);
+}
+
 void tell_pattern(const struct log *log, const struct verdict *verdict)
 {
     struct record records[YR_MAX_RECORDS], excerpt[YR_MAX_RECORDS];
@@ -165,4 +176,5 @@ void tell_pattern(const struct log *log, const struct verdict *verdict)
     printf("its excerpt, judged as a log of its own: ");
     tell_sheet(&verdict->excerpt_sheet, excerpt);
     tell_excerpt(excerpt, count, records);
+    tell_page(&verdict->excerpt_page);
 }

@@ -3,8 +3,9 @@
 #include "trouble.h"
 #include "yauponroof_recorder.h"
 
-/* The bytes of a log before its records, and of a sheet before the operations that it lists. */
-enum { LOG_HEADER = 3, SHEET_HEADER = 4 };
+/* The bytes of a log before its records, of a sheet before the operations that it lists, and of each
+   line of a page: 80 characters and a line feed. */
+enum { LOG_HEADER = 3, SHEET_HEADER = 4, PAGE_LINE = 81 };
 
 unsigned sheet_verdict(const struct sheet *sheet)
 {
@@ -89,10 +90,32 @@ static int judge_excerpt(const struct log *log, struct verdict *verdict)
            trouble("the excerpt judged by itself has another verdict");
 }
 
+/* Whether a page has a line for each operation of the log. */
+static int is_page_of(const struct page *page, const struct log *log)
+{
+    return page->length <= sizeof page->bytes &&
+           page->length == PAGE_LINE * count_operations(log);
+}
+
+/* Writes the page of an excerpt. It is no trouble if the excerpt has too many records for one. */
+static int write_page(const struct log *excerpt, struct page *page)
+{
+    yr_answer answer =
+        yr_page(excerpt->bytes, excerpt->length, page->bytes, sizeof page->bytes);
+    page->length = 0;
+    if (YR_REFUSED(answer) == YR_REFUSAL_PAGE)
+        return 1;
+    if (!accepted(answer, "the page of the excerpt"))
+        return 0;
+    page->length = YR_VALUE(answer);
+    return is_page_of(page, excerpt) || trouble("what is written is no page of the excerpt");
+}
+
 int judge(const struct log *log, struct verdict *verdict)
 {
     if (!write_sheet(log, &verdict->sheet, "the log"))
         return 0;
-    return sheet_verdict(&verdict->sheet) == 0 ? replay(log, &verdict->sheet)
-                                               : judge_excerpt(log, verdict);
+    if (sheet_verdict(&verdict->sheet) == 0)
+        return replay(log, &verdict->sheet);
+    return judge_excerpt(log, verdict) && write_page(&verdict->excerpt, &verdict->excerpt_page);
 }

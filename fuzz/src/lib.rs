@@ -1,6 +1,7 @@
 //! A fuzz target for libFuzzer. Inputs are made into logs, sheets and scripts of sessions, which are
 //! handed to the library and to the tests' own reader, table of patterns, search for an order, test
-//! of orders, excerpts, narrowings and sessions. All that the library answers and writes is compared.
+//! of orders, excerpts, narrowings, pages and sessions. All that the library answers and writes is
+//! compared.
 //!
 //! The library is not built with what guides the fuzzer. The tests' own are: an input is kept, and
 //! changed further, if they take it in a new way.

@@ -1,8 +1,9 @@
 //! All entries that take a log, on one log: held against the tests' own reader, their table of
-//! patterns, their search for an order where the log is short, their excerpts and narrowings.
+//! patterns, their search for an order where the log is short, their excerpts, narrowings and pages.
 
 use yauponroof_tests::compare::buffer_lengths::in_room;
 use yauponroof_tests::compare::narrowing::compare_narrowing;
+use yauponroof_tests::compare::page::Pages;
 use yauponroof_tests::compare::reading::Tally;
 use yauponroof_tests::hex::show;
 use yauponroof_tests::library::fenced::{Fenced, Place};
@@ -10,8 +11,9 @@ use yauponroof_tests::library::guarded::written_twice;
 use yauponroof_tests::library::outcomes::{excerpt_made, judged, narrowing_made};
 use yauponroof_tests::library::{excerpt, judge, narrow};
 use yauponroof_tests::model::history::operations;
+use yauponroof_tests::model::page::LINE;
 use yauponroof_tests::model::projection::values;
-use yauponroof_tests::model::reader;
+use yauponroof_tests::model::reader::{self, operation_count};
 use yauponroof_tests::model::record::Record;
 use yauponroof_tests::model::search::has_linearization;
 use yauponroof_tests::model::violations::first_violation;
@@ -55,6 +57,7 @@ impl Calls {
                 compare_with_search(log, &records);
                 self.compare_rooms(log, reached);
                 self.compare_narrowings(log, &self.values(&records), reached);
+                self.compare_page(log, operation_count(&records), reached);
             }
         });
     }
@@ -76,6 +79,12 @@ impl Calls {
             let kept = self.compare_room(made, |out| narrow(log, values, out));
             reached.count(Of::Narrow, kept);
         });
+    }
+
+    /// The page, with another length of its buffer.
+    fn compare_page(&self, log: &[u8], operations: u32, reached: &mut Reached) {
+        let room = near(LINE * operations as usize, self.room);
+        reached.count_page(Pages::new().compare_room(log, room));
     }
 
     /// With another length of its buffer a call gives what it gives with enough bytes, or 24.

@@ -13,6 +13,9 @@ pub enum Of {
     Verdict,
     Excerpt,
     Narrow,
+    Page,
+    /// 0 for a page of no lines, 1 for one that has some.
+    Lines,
     Begin,
     Feed,
     Close,
@@ -23,7 +26,7 @@ pub enum Of {
 /// The name of each, and the numbers that are to be reached. Of an answer 0 is accepted, and the
 /// others are refusals. 21 of a feed is not: no input here holds 1,024 records. Refused logs are counted
 /// at yr_check and yr_replay; that the other calls refuse them alike is compared.
-const TO_REACH: [(&str, &[usize]); 12] = [
+const TO_REACH: [(&str, &[usize]); 14] = [
     ("yr_check", &[0, 1, 2, 3, 4, 5, 6, 7, 8, 9, 10]),
     ("yr_replay", &[0, 1, 2, 3, 4, 5, 6, 7, 8, 9, 10, 11]),
     ("yr_replay, no and yes", &[0, 1]),
@@ -31,6 +34,8 @@ const TO_REACH: [(&str, &[usize]); 12] = [
     ("yr_judge, verdict", &[0, 1, 2, 3, 4, 5, 6]),
     ("yr_excerpt", &[0, 23, 24]),
     ("yr_narrow", &[0, 24]),
+    ("yr_page", &[0, 24, 30]),
+    ("yr_page, no lines and some", &[0, 1]),
     ("yr_begin", &[0, 24]),
     ("yr_feed", &[0, 1, 4, 5, 6, 7, 8, 9, 20, 24, 25]),
     ("yr_close", &[0, 10, 20, 24, 25]),
@@ -38,12 +43,15 @@ const TO_REACH: [(&str, &[usize]); 12] = [
     ("yr_session_excerpt", &[0, 22, 23, 24, 25]),
 ];
 
+/// The numbers of all answers are below this.
+const NUMBERS: usize = 31;
+
 /// How often each number was reached.
-pub struct Reached([[u64; 26]; TO_REACH.len()]);
+pub struct Reached([[u64; NUMBERS]; TO_REACH.len()]);
 
 impl Reached {
     pub const fn new() -> Reached {
-        Reached([[0; 26]; TO_REACH.len()])
+        Reached([[0; NUMBERS]; TO_REACH.len()])
     }
 
     pub fn count(&mut self, of: Of, answer: Answer) {
@@ -58,6 +66,13 @@ impl Reached {
         self.count(Of::Replay, answer);
         if let Answer::Accepted(says) = answer {
             self.0[Of::Replayed as usize][says as usize] += 1;
+        }
+    }
+
+    pub fn count_page(&mut self, answer: Answer) {
+        self.count(Of::Page, answer);
+        if let Answer::Accepted(bytes) = answer {
+            self.0[Of::Lines as usize][usize::from(bytes > 0)] += 1;
         }
     }
 

@@ -224,6 +224,15 @@ static inline void log_simulate(struct log *log, struct sheet *order, enum clien
     log_simulate_by(log, order, clients, WORKERS);
 }
 
+/* The most records of a log that has a page, with 8 clients at work: the last is an add of a ninth
+   client that does not return, and the order leaves it out. */
+static inline void log_simulate_page(struct log *log, struct sheet *order)
+{
+    struct simulation run = {log, order, 1, 0, 0, {0}, 0, 0};
+    simulation_run(&run, CLIENTS_REUSED, WORKERS, YR_PAGE_RECORDS - 1);
+    log_record(log, CALL_ADD, WORKERS, run.adds);
+}
+
 /* A run of 8 clients, removes that empty the queue, and then adds and removes of one value each,
    until `free` records of 1,024 are left, an even number. The values are below 1,024, and the
    clients below 8. */

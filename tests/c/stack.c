@@ -91,6 +91,12 @@ static yr_answer use_narrow(const struct log *log, const struct sheet *sheet)
                      sizeof written);
 }
 
+static yr_answer use_page(const struct log *log, const struct sheet *sheet)
+{
+    (void)sheet;
+    return yr_page(log->bytes, log->length, written, YR_PAGE_MAX);
+}
+
 /* What the entries of sessions are lent. */
 static struct held held;
 
@@ -202,6 +208,8 @@ static const struct entry excerpt = {
     "yr_excerpt", use_excerpt, 64 * 1024, "yr_excerpt stays under 64 KiB of stack"};
 static const struct entry narrow = {
     "yr_narrow", use_narrow, 64 * 1024, "yr_narrow stays under 64 KiB of stack"};
+static const struct entry page = {
+    "yr_page", use_page, 64 * 1024, "yr_page stays under 64 KiB of stack"};
 static const struct entry begin = {
     "yr_begin", use_begin, 16 * 1024, "yr_begin stays under 16 KiB of stack"};
 static const struct entry feed = {
@@ -236,6 +244,19 @@ static uint32_t length_of_values(const struct log *log)
     return (uint32_t)length;
 }
 
+/* The bytes of a page for each operation. */
+#define PAGE_LINE (YR_PAGE_MAX / YR_PAGE_RECORDS)
+
+/* Measures the page of a readable log of so many operations, which is refused if the log has too many
+   records. */
+static void measure_page(const struct log *log, uint32_t operations, const char *name)
+{
+    if (log->records > YR_PAGE_RECORDS)
+        measure_entry(&page, log, NULL, YR_REFUSAL_PAGE, 0, name);
+    else
+        measure_entry(&page, log, NULL, 0, PAGE_LINE * operations, name);
+}
+
 /* Measures the entries of sessions on a readable log. So many operations are listed, and this is the
    answer for the excerpt. */
 static void measure_session(const struct log *log, uint32_t listed, uint32_t refusal, uint32_t kept,
@@ -261,6 +282,7 @@ static void measure_all(const struct log *log, const struct sheet *order, uint32
     measure_entry(&judge, log, order, 0, SHEET_HEADER + 2 * listed, name);
     measure_entry(&excerpt, log, order, YR_REFUSAL_ORDER, 0, name);
     measure_entry(&narrow, log, order, 0, length_of_values(log), name);
+    measure_page(log, operations, name);
     measure_session(log, listed, YR_REFUSAL_ORDER, 0, name);
 }
 
@@ -310,6 +332,18 @@ static void measure_longest_sheet(struct log *log, struct sheet *order)
     measure_all(log, order, 682, 682, "341 adds that do not return, all removed");
 }
 
+/* Logs that have a page: the longest page, a run of 8 clients, and one of many empty removes. */
+static void measure_pages(struct log *log, struct sheet *order)
+{
+    log_pending_adds(log, YR_PAGE_RECORDS);
+    sheet_begin(order);
+    measure_all(log, order, YR_PAGE_RECORDS, 0, "63 adds that never return");
+    log_simulate_page(log, order);
+    measure_all(log, order, 32, 31, "63 records, 8 clients at work");
+    log_relay(log, order, 10, 10, LAST_FALSE);
+    measure_page(log, 30, "10 empty removes over 10 values, the last one false");
+}
+
 /* Measures all entries on a log that is refused; replay with an order and with a sheet that is
    none. */
 static void measure_refused(const struct log *log, struct sheet *sheet, uint32_t refusal,
@@ -319,6 +353,7 @@ static void measure_refused(const struct log *log, struct sheet *sheet, uint32_t
     measure_entry(&judge, log, sheet, refusal, index, name);
     measure_entry(&excerpt, log, sheet, refusal, index, name);
     measure_entry(&narrow, log, sheet, refusal, index, name);
+    measure_entry(&page, log, sheet, refusal, index, name);
     sheet_call_order(sheet, YR_MAX_RECORDS);
     measure_entry(&replay, log, sheet, refusal, index, name);
     sheet->length--;
@@ -391,6 +426,7 @@ int main(void)
     log_relay(&log, &order, 170, 170, LAST_TRUE);
     measure_all(&log, &order, 510, 510, "170 empty removes over 170 values");
     measure_longest_sheet(&log, &order);
+    measure_pages(&log, &order);
     measure_patterns(&log, &order);
     measure_other_sheets(&log, &order);
     measure_refused_logs(&log, &order);

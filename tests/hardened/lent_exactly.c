@@ -149,6 +149,18 @@ yr_answer __wrap_yr_narrow(const uint8_t *log, size_t log_len, const uint32_t *v
     return answer;
 }
 
+yr_answer __real_yr_page(const uint8_t *log, size_t log_len, uint8_t *page, size_t page_len);
+yr_answer __wrap_yr_page(const uint8_t *log, size_t log_len, uint8_t *page, size_t page_len);
+
+yr_answer __wrap_yr_page(const uint8_t *log, size_t log_len, uint8_t *page, size_t page_len)
+{
+    uint8_t *lent_log = lend(log, log_len), *lent_page = lend_undefined(page, page_len);
+    yr_answer answer = answered(__real_yr_page(lent_log, log_len, lent_page, page_len));
+    take_back_unchanged(lent_log, log, log_len);
+    take_back_written(lent_page, page, page_len, answer);
+    return answer;
+}
+
 yr_answer __real_yr_begin(yr_session *s, uint8_t *buf, size_t len);
 yr_answer __wrap_yr_begin(yr_session *s, uint8_t *buf, size_t len);
 

@@ -7,9 +7,10 @@ use mathlib.Core.Bool.{Bool, true, false, not}
 use mathlib.Core.Logic.{_⊎_, inl, inr}
 use mathlib.Core.List.{List, [], _++_}
 use lib.ListN.{length, drop}
-use lib.Dec.{eqb}
-use borrow.Author.Tests.{eqb-false}
+use lib.Dec.{ltb, eqb}
+use borrow.Author.Tests.{ltb-false, eqb-false}
 use Rattle.record.specs.Choice.{if_then_else_}
+use Rattle.record.specs.Number.{Bytes}
 use Rattle.record.specs.declared.record.Record.{Record}
 use Rattle.buffer.specs.Buffer.{bufferTooShort, lacksRoom, written}
 use Rattle.buffer.specs.Output.{writing, refusalUnit, refusal, outputAnswer}
@@ -17,9 +18,11 @@ use Rattle.buffer.specs.declared.output.Output.{Output}
 use Rattle.buffer.specs.declared.output.Output.the-variants as output
 use Rattle.reader.specs.Log.{maxLength, Reading, readable, refused, readLog, checked, operations, encodeLog}
 use Rattle.reader.specs.Readable.{Within}
-use Rattle.reader.proofs.Laws.{within, few-operations}
+use Rattle.reader.proofs.Laws.{within, readable-log, few-operations}
 use Rattle.history.specs.Object.{Queue}
 use Rattle.history.specs.Operations.{historyOf}
+use Rattle.timeline.specs.Page.{pageRecords, pageOf, tooManyRecords, pageAnswer, pageLeaves}
+use Rattle.timeline.proofs.Laws.{page-short}
 use Rattle.violations.specs.Violations.{NoViolation}
 use Rattle.violations.specs.Verdict.{SomeViolation}
 use Rattle.violations.proofs.Laws.{first-violation}
@@ -156,6 +159,20 @@ excerpt-small (of-log log) out = go (readLog log) refl (within log)
     go (readable records) reads few = of-pattern records reads (first-violation Queue (historyOf records))
     go (refused number index) reads few = (few .0, few .2)
 
+-- of what writes a page
+pub page-small : (log out : List ℕ) → Bytes log → SmallOutput (pageAnswer (readLog log) out)
+page-small log out bytes = go (readLog log) refl (within log)
+  where
+    of-readable : (records : List Record) → readLog log ≡ readable records → (long : Bool) → ltb pageRecords (length records) ≡ long
+        → SmallOutput (if long then output.Refused tooManyRecords 0 else writing (pageOf records) out)
+    of-readable records reads true e = (omega arith, omega arith)
+    of-readable records reads false e =
+        writing-small (pageOf records) out (omega (arith, page-short (readable-log log records reads) bytes (ltb-false pageRecords (length records) e)))
+
+    go : (reading : Reading) → readLog log ≡ reading → Within reading → SmallOutput (pageAnswer reading out)
+    go (readable records) reads few = of-readable records reads (ltb pageRecords (length records)) refl
+    go (refused number index) reads few = (few .0, few .2)
+
 pub written-accepted : (n : ℕ) → SmallOutput (output.Written n) → AcceptedWith (outputAnswer (output.Written n)) n
 written-accepted n short = small-accepted n (omega (arith, short))
 
@@ -218,7 +235,17 @@ excerpt-untouched (readable records) out {number} {index} e = go (first-violatio
     go (inl (n, listed, first)) e = writing-untouched (encodeLog (excerpted records listed)) out e
     go (inr clean) e = refl
 
--- What the number of a call that writes a log says: so many bytes were written, or the call was refused and the buffer is as it was.
+-- and of the page
+page-untouched : (reading : Reading) (out : List ℕ) {number index : ℕ} → pageAnswer reading out ≡ output.Refused number index → pageLeaves reading out ≡ out
+page-untouched (refused n i) out e = refl
+page-untouched (readable records) out {number} {index} e = go (ltb pageRecords (length records)) e
+  where
+    go : (long : Bool) → (if long then output.Refused tooManyRecords 0 else writing (pageOf records) out) ≡ output.Refused number index
+        → (if long then out else written (pageOf records) out) ≡ out
+    go true e = refl
+    go false e = writing-untouched (pageOf records) out e
+
+-- What the number of a call that writes a log or a page says: so many bytes were written, or the call was refused and the buffer is as it was.
 pub data OutputSays (given : Output) (out : List ℕ) (answer : ℕ) (out' : List ℕ) : Type 0 where
   writes : {n : ℕ} → given ≡ output.Written n → AcceptedWith answer n → OutputSays given out answer out'
   refuses : {number index : ℕ} → given ≡ output.Refused number index → TurnedDown answer number index → out' ≡ out → OutputSays given out answer out'
@@ -232,6 +259,11 @@ output-says (output.Refused number index) small e same = refuses {number = numbe
 pub narrow-says : (log values out : List ℕ) {answer : ℕ} {out' : List ℕ} → answer ≡ outputAnswer (narrowAnswer (readLog log) values out)
     → out' ≡ narrowLeaves (readLog log) values out → OutputSays (narrowAnswer (readLog log) values out) out answer out'
 narrow-says log values out e leaves = output-says _ (narrow-small log values out) e (λ number index is. leaves ∙ narrow-untouched (readLog log) values out is)
+
+-- of the page
+pub page-says : (log out : List ℕ) → Bytes log → {answer : ℕ} {out' : List ℕ} → answer ≡ outputAnswer (pageAnswer (readLog log) out)
+    → out' ≡ pageLeaves (readLog log) out → OutputSays (pageAnswer (readLog log) out) out answer out'
+page-says log out bytes e leaves = output-says _ (page-small log out bytes) e (λ number index is. leaves ∙ page-untouched (readLog log) out is)
 
 -- of the excerpt of a log, or of what a session holds
 pub excerpt-says : {reading : Reading} → Known reading → (out : List ℕ) {answer : ℕ} {out' : List ℕ} → answer ≡ outputAnswer (excerptAnswer reading out)

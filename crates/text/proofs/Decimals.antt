@@ -3,9 +3,9 @@ use Prim.Native.Nat.{ℕ, zero, suc, _+_, _/_, _%_, _^_, _≤_, _<_}
 use native.Mathlib.Omega.{arith}
 use native.Mathlib.Nat.{pow-suc}
 use native.Mathlib.Decide.{decLt}
-use mathlib.Core.Path.{_≡_, refl, ap, _∙_}
+use mathlib.Core.Path.{_≡_, refl, sym, ap, _∙_}
 use mathlib.Core.List.{[], _∷_, _++_}
-use lib.ListN.{length, length-append}
+use lib.ListN.{length, getD, length-append, List·getD-append}
 use borrow.Author.Tests.{lt-ltb, le-ltb}
 use Rattle.text.specs.Text.{digit, digits, decimal}
 
@@ -48,3 +48,27 @@ digits-few (suc most) n x l = go (decLt x 10) n l (λ k. digits-few most k (x / 
 
 pub decimal-few : (n x : ℕ) → x < 10 ^ suc n → length (decimal x) ≤ suc n
 decimal-few n x l = digits-few (suc x) n x l
+
+-- a number other than 0 has no leading zero
+digits-some : (most x : ℕ) → x < most → 0 < length (digits most x)
+unfolding digits
+digits-some zero x l = absurd (omega arith)
+digits-some (suc most) x l = go (decLt x 10)
+  where
+    go : Dec (x < 10) → 0 < length (digits (suc most) x)
+    go (yes s) = rw (lt-ltb x 10 s) (omega arith)
+    go (no s) = rw (le-ltb x 10 (omega arith)) (omega (arith, length-append (digits most (x / 10)) (digit (x % 10) ∷ [])))
+
+digits-lead : (most x : ℕ) → x < most → 0 < x → getD (digits most x) 0 0 ≡ digit 0 → ⊥
+unfolding digits
+digits-lead zero x l p e = omega arith
+digits-lead (suc most) x l p e = go (decLt x 10) (digits-lead most (x / 10)) e
+  where
+    go : Dec (x < 10) → (x / 10 < most → 0 < x / 10 → getD (digits most (x / 10)) 0 0 ≡ digit 0 → ⊥) → getD (digits (suc most) x) 0 0 ≡ digit 0 → ⊥
+    go (yes s) rest e = let one : digit x ≡ digit 0 = rw (lt-ltb x 10 s) at e in omega arith
+    go (no s) rest e =
+        rest (omega arith) (omega arith)
+        (sym (List·getD-append (digits most (x / 10)) (digit (x % 10) ∷ []) 0 0 (digits-some most (x / 10) (omega arith))) ∙ rw (le-ltb x 10 (omega arith)) at e)
+
+pub decimal-leads : (x : ℕ) → 0 < x → getD (decimal x) 0 0 ≡ digit 0 → ⊥
+decimal-leads x p e = digits-lead (suc x) x (omega arith) p e

@@ -1,2 +1,2 @@
-// Lines of decimal fields, written into a lent buffer.
+// Lines of text and decimal numbers, written into a lent buffer.
 pub mod text;

@@ -1,24 +1,38 @@
 // Text in ASCII, written into a lent buffer from a position on. Each function returns the position after what it wrote.
 // specs/Text.antt says what is right.
+ghost use mathlib.Core.Path.{_≡_};
 ghost use mathlib.Core.List.{[], _∷_};
-ghost use Prim.Native.Nat.{_+_, _≤_, _<_};
-ghost use lib.ListN.{length};
+ghost use Prim.Native.Nat.{_+_, _-_, _≤_, _<_};
+ghost use lib.ListN.{length, replicate};
 ghost use Rattle.text.specs.Text.{space, lineFeed, decimal, Puts};
 use buffer::buffer::copy;
 
-const SPACE: u8 = b' ';
+pub const SPACE: u8 = b' ';
 
 const LINE_FEED: u8 = b'\n';
 
 const ZERO: u8 = b'0';
 
 // Writes a byte.
-fn put_byte(text: &mut [u8], at: usize, byte: u8) -> usize
+pub fn put_byte(text: &mut [u8], at: usize, byte: u8) -> usize
     requires { ⌜ at < length (now text) ⌝ }
     ensures { λ next. ⌜ Puts (byte ∷ []) at (now (text .entry)) next (now (text .exit)) ⌝ }
 {
     text[at] = byte;
     at + 1
+}
+
+// Writes a byte again and again, up to a position.
+pub fn put_run(text: &mut [u8], at: usize, end: usize, byte: u8) -> usize
+    requires { ⌜ (at ≤ end) × (end ≤ length (now text)) ⌝ }
+    ensures { λ next. ⌜ (next ≡ end) × Puts (replicate (end - at) byte) at (now (text .entry)) next (now (text .exit)) ⌝ }
+{
+    let mut next = at;
+    while next < end {
+        text[next] = byte;
+        next += 1;
+    }
+    next
 }
 
 // Writes bytes.
@@ -31,7 +45,7 @@ pub fn put_bytes(text: &mut [u8], at: usize, bytes: &[u8]) -> usize
 }
 
 // Writes a number in decimal.
-fn put_number(text: &mut [u8], at: usize, x: usize) -> usize
+pub fn put_number(text: &mut [u8], at: usize, x: usize) -> usize
     requires { ⌜ at + length (decimal x) ≤ length (now text) ⌝ }
     ensures { λ next. ⌜ Puts (decimal x) at (now (text .entry)) next (now (text .exit)) ⌝ }
 {

@@ -4,6 +4,7 @@
 ghost use mathlib.Core.Path.{_≡_};
 ghost use Rattle.buffer.specs.Output.{outputAnswer};
 ghost use Rattle.reader.specs.Log.{readLog, checked};
+ghost use Rattle.timeline.specs.Page.{pageAnswer, pageLeaves};
 ghost use Rattle.replay.specs.Replay.{replayed};
 ghost use Rattle.projection.specs.Outcome.{excerptAnswer, excerptLeaves, narrowAnswer, narrowLeaves};
 ghost use Rattle.answers.specs.Answer.{checkAnswer, replayAnswer, JudgeAnswers};
@@ -19,6 +20,7 @@ use projection::excerpt::excerpt;
 use projection::narrow::narrow;
 use reader::log::check;
 use replay::replay::replay;
+use timeline::page::page;
 
 // Checks a log. Returns the number of its operations, or a refusal from 1 to 10.
 #[no_mangle]
@@ -60,4 +62,13 @@ pub extern "C" fn yr_narrow(log: &[u8], values: &[u32], out: &mut [u8]) -> u64
         × (now (out .exit) ≡ narrowLeaves (readLog (now (log .entry))) (now (values .entry)) (now (out .entry))) ⌝ }
 {
     output_answer(narrow(log, values, out))
+}
+
+// Writes the page of a log of at most 63 records. Returns how many bytes were written, or a refusal from 1 to 10, 24 or 30.
+#[no_mangle]
+pub extern "C" fn yr_page(log: &[u8], out: &mut [u8]) -> u64
+    ensures { λ r. ⌜ (r ≡ outputAnswer (pageAnswer (readLog (now (log .entry))) (now (out .entry))))
+        × (now (out .exit) ≡ pageLeaves (readLog (now (log .entry))) (now (out .entry))) ⌝ }
+{
+    output_answer(page(log, out))
 }

@@ -6,6 +6,7 @@ pub mod archive;
 pub mod buffer_lengths;
 pub mod every_order;
 pub mod narrowing;
+pub mod page;
 pub mod random_script;
 pub mod reading;
 pub mod replay;

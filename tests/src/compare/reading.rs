@@ -3,9 +3,10 @@
 
 use crate::compare::archive::Archives;
 use crate::compare::narrowing::compare_some_narrowing;
+use crate::compare::page::Pages;
 use crate::hex::show;
 use crate::library::guarded::written;
-use crate::library::{check, excerpt, judge, narrow, replay};
+use crate::library::{check, excerpt, judge, narrow, page, replay};
 use crate::model::sheet::sheet;
 use crate::model::{linearization, reader};
 use crate::{refused, Answer};
@@ -16,6 +17,7 @@ pub struct Tally {
     seen: [u64; 11],
     entries: Entries,
     archives: Archives,
+    pages: Pages,
 }
 
 /// The entries that are handed each log.
@@ -63,6 +65,7 @@ impl Tally {
             Answer::Accepted(_) if self.is_to_be_judged(log) => {
                 self.archives.compare(log);
                 compare_some_narrowing(log);
+                self.pages.compare(log);
             }
             Answer::Accepted(_) => {}
             refusal => assert_nothing_written(log, refusal),
@@ -80,6 +83,11 @@ impl Tally {
     /// How often each verdict was given on the readable logs that were judged.
     pub fn archives(&self) -> &Archives {
         &self.archives
+    }
+
+    /// How often a page was given for these, and refused.
+    pub fn pages(&self) -> &Pages {
+        &self.pages
     }
 
     pub fn total(&self) -> u64 {
@@ -129,6 +137,7 @@ fn assert_nothing_written(log: &[u8], refusal: Answer) {
         written(ROOM, |sheet| judge(log, sheet)),
         written(ROOM, |out| excerpt(log, out)),
         written(ROOM, |out| narrow(log, &[0, 7], out)),
+        written(ROOM, |out| page(log, out)),
     ];
     for outcome in outcomes {
         assert_eq!(outcome, Err(refusal), "for the log {}", show(log));

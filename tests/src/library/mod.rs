@@ -22,6 +22,7 @@ extern "C" {
         out: *mut u8,
         out_len: usize,
     ) -> u64;
+    fn yr_page(log: *const u8, log_len: usize, page: *mut u8, page_len: usize) -> u64;
     fn yr_begin(session: *mut Session, buffer: *mut u8, length: usize) -> u64;
     fn yr_feed(
         session: *mut Session,
@@ -89,6 +90,11 @@ pub fn narrow(log: &[u8], values: &[u32], out: &mut [u8]) -> Answer {
             out.len(),
         )
     })
+}
+
+/// Makes the page of a log with the library: the number of bytes written, or a refusal.
+pub fn page(log: &[u8], page: &mut [u8]) -> Answer {
+    answer(unsafe { yr_page(log.as_ptr(), log.len(), page.as_mut_ptr(), page.len()) })
 }
 
 /// Begins a session with the library: the number of bytes written, or a refusal.

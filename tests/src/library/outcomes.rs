@@ -1,7 +1,8 @@
 //! What the entries that write give for a log, with buffers that are long enough.
 
 use crate::library::guarded::written;
-use crate::library::{excerpt, judge, narrow};
+use crate::library::{excerpt, judge, narrow, page};
+use crate::model::page::PAGE_MAX;
 use crate::model::sheet::{HEADER, SHEET_MAX};
 use crate::Outcome;
 
@@ -24,4 +25,9 @@ pub fn excerpt_made(log: &[u8]) -> Outcome {
 /// The bytes that the library writes when it narrows the log to these values, or its refusal.
 pub fn narrowing_made(log: &[u8], values: &[u32]) -> Outcome {
     written(log.len() + MORE, |out| narrow(log, values, out))
+}
+
+/// The page that the library makes, or its refusal.
+pub fn page_made(log: &[u8]) -> Outcome {
+    written(PAGE_MAX + MORE, |out| page(log, out))
 }

@@ -149,6 +149,7 @@ fn short_logs_damaged_in_every_way() {
     ]);
     let archives = tally.archives();
     archives.assert_at_least([10_000, 15_000, 300, 300, 600, 300, 900]);
+    tally.pages().assert_at_least(&[(0, 25_000)]);
 }
 
 #[test]
@@ -165,6 +166,7 @@ fn medium_logs_damaged_at_every_byte() {
     ]);
     let archives = tally.archives();
     archives.assert_at_least([1000, 1000, 0, 0, 0, 0, 0]);
+    tally.pages().assert_at_least(&[(30, 2000)]);
 }
 
 #[test]

@@ -2,7 +2,7 @@
 //! in between, and any number of threads may judge at the same time, also the same bytes.
 
 use yauponroof_tests::compare::threads::in_threads;
-use yauponroof_tests::library::outcomes::{excerpt_made, judged, narrowing_made};
+use yauponroof_tests::library::outcomes::{excerpt_made, judged, narrowing_made, page_made};
 use yauponroof_tests::logs::notation::run;
 use yauponroof_tests::logs::samples::{refused_logs, RUNS};
 use yauponroof_tests::logs::simulation::{simulate_load, Clients, Load};
@@ -12,13 +12,18 @@ use yauponroof_tests::model::writer::log;
 use yauponroof_tests::random::Random;
 use yauponroof_tests::Outcome;
 
-/// What the three entries that write give for a log.
-type Outcomes = [Outcome; 3];
+/// What the four entries that write give for a log.
+type Outcomes = [Outcome; 4];
 
 fn outcomes(log: &[u8]) -> Outcomes {
     let all = reader::read(log).map_or(Vec::new(), |records| values(&records));
     let half = &all[all.len() / 2..];
-    [judged(log), excerpt_made(log), narrowing_made(log, half)]
+    [
+        judged(log),
+        excerpt_made(log),
+        narrowing_made(log, half),
+        page_made(log),
+    ]
 }
 
 /// Logs of many sizes with orders, patterns and refusals.

@@ -8,15 +8,16 @@ use crate::lines::{lines, say, vectors, Line};
 use crate::program::play_program;
 use crate::replay::play_replay;
 use crate::session::play_session;
-use crate::written::{play_excerpt, play_judge, play_narrow};
+use crate::written::{play_excerpt, play_judge, play_narrow, play_page};
 
 type Player = fn(&Line) -> Agreement;
 
 /// The entries that are played.
-const PLAYERS: [(&str, Player); 6] = [
+const PLAYERS: [(&str, Player); 7] = [
     ("judge", play_judge),
     ("excerpt", play_excerpt),
     ("narrow", play_narrow),
+    ("page", play_page),
     ("replay", play_replay),
     ("program", play_program),
     ("session", play_session),
@@ -26,14 +27,16 @@ const PLAYERS: [(&str, Player); 6] = [
 /// entry plays its lines or names them here.
 const SKIPPED: [&str; 0] = [];
 
-/// The vectors have at least so many lines of level 0, whatever level has landed.
-const AT_LEVEL_0: [(&str, usize); 6] = [
-    ("judge", 900),
-    ("excerpt", 157),
-    ("narrow", 124),
-    ("replay", 119),
-    ("program", 101),
-    ("session", 80),
+/// The level that brings an entry, and how many lines of it the vectors have there at least,
+/// whatever level has landed.
+const AT_FIRST_LEVEL: [(&str, u32, usize); 7] = [
+    ("judge", 0, 900),
+    ("excerpt", 0, 157),
+    ("narrow", 0, 124),
+    ("page", 1, 65),
+    ("replay", 0, 119),
+    ("program", 0, 101),
+    ("session", 0, 80),
 ];
 
 /// The level with all changes.
@@ -114,14 +117,14 @@ fn count_at(level: u32, text: &str) -> usize {
 }
 
 #[test]
-fn no_line_of_level_0_is_lost() {
+fn no_line_of_the_level_that_brings_an_entry_is_lost() {
     let Some(text) = vectors() else { return };
-    let mut counts = Counts::default();
-    lines(&text)
-        .filter(|line| line.levels.contains(&0))
-        .for_each(|line| counts.add(&line));
-    for (entry, floor) in AT_LEVEL_0 {
-        let count = counts.of(entry);
-        assert!(count >= floor, "{count} lines of {entry}, not {floor}");
+    for (entry, level, floor) in AT_FIRST_LEVEL {
+        let is_counted = |line: &Line| name(line) == entry && line.levels.contains(&level);
+        let count = lines(&text).filter(is_counted).count();
+        assert!(
+            count >= floor,
+            "{count} lines of {entry} at level {level}, not {floor}"
+        );
     }
 }

@@ -75,7 +75,7 @@ impl<'a> Line<'a> {
     /// may be left off.
     fn last_fields(&self) -> &[&'a str] {
         let others = match self.entry {
-            "judge" | "excerpt" => 1,
+            "judge" | "excerpt" | "page" => 1,
             "narrow" | "replay" => 2,
             _ => self.fields.len(),
         };

@@ -2,6 +2,7 @@
 
 use yauponroof_tests::hex::digits;
 use yauponroof_tests::logs::notation::run;
+use yauponroof_tests::logs::samples::pending_adds;
 use yauponroof_tests::model::writer::log;
 
 use crate::every_line::play;
@@ -70,6 +71,44 @@ fn of_excerpts_and_narrowings() {
         &format!("narrow {} 00000002 - 2", false_empty()),
         &["refused 24 0"],
         &["wrote 010000"],
+    );
+}
+
+/// A line of a page, as the vectors write bytes.
+fn line(number: char, label: &str, columns: &str) -> String {
+    let text = format!("   {number} {label:<11} {columns:<63}\n");
+    digits(text.as_bytes())
+}
+
+#[test]
+fn of_pages() {
+    let add = line('0', "A1", "##..");
+    let remove = line('1', "E", "..##");
+    assert_noticed(
+        &format!("page {}", false_empty()),
+        &[&format!("wrote {add}{remove}")],
+        &[
+            &format!("wrote {remove}{add}"),
+            &format!("wrote {add}"),
+            &format!("wrote {add}{}", line('1', "R", "..##")),
+            &format!("wrote {add}{}", line('1', "E", "..#.")),
+            &format!("wrote {add}{remove}00"),
+            "wrote .",
+            "refused 24 0",
+            "refused 30 0",
+        ],
+    );
+    assert_noticed(
+        &format!("page {} - 161", false_empty()),
+        &["refused 24 0"],
+        &[&format!("wrote {add}{remove}"), "refused 24 1"],
+    );
+    assert_noticed("page 010000 - 0", &["wrote ."], &["refused 24 0"]);
+    let long = digits(&log(&pending_adds(64)));
+    assert_noticed(
+        &format!("page {long} - 0"),
+        &["refused 30 0"],
+        &["refused 24 0", "refused 30 63", "wrote ."],
     );
 }
 

@@ -21,7 +21,7 @@ fn the_reader_answers_as_the_vectors_say() {
 }
 
 fn hands_in_a_log(line: &Line) -> bool {
-    let entries = ["judge", "excerpt", "narrow", "replay", "program"];
+    let entries = ["judge", "excerpt", "narrow", "page", "replay", "program"];
     entries.contains(&line.entry) && !line.is_coded()
 }
 
@@ -29,7 +29,7 @@ fn agrees(read: Answer, answer: &str) -> bool {
     let words: Vec<&str> = answer.split_whitespace().collect();
     match words[..] {
         // These are refusals of a log that has been read.
-        ["refused", "11" | "23" | "24", _] => matches!(read, Answer::Accepted(_)),
+        ["refused", "11" | "23" | "24" | "30", _] => matches!(read, Answer::Accepted(_)),
         ["refused", refusal, index] => read == refused(number(refusal), number(index)),
         ["log", _, "records", operations, ..] => read == Answer::Accepted(number(operations)),
         ["wrote", _] | ["yes"] | ["no"] => matches!(read, Answer::Accepted(_)),

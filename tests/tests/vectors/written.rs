@@ -1,8 +1,8 @@
-//! Lines of the entries that write: judge, excerpt and narrow.
+//! Lines of the entries that write: judge, excerpt, narrow and page.
 
 use yauponroof_tests::hex::digits;
 use yauponroof_tests::library::guarded::written_twice;
-use yauponroof_tests::library::{excerpt, judge, narrow};
+use yauponroof_tests::library::{excerpt, judge, narrow, page};
 use yauponroof_tests::Outcome;
 
 use crate::answers::{is_as_good, is_upheld, refusal, same, Agreement};
@@ -29,6 +29,11 @@ pub fn play_narrow(line: &Line) -> Agreement {
     let value = |four: &[u8]| u32::from_be_bytes(four.try_into().expect("four bytes"));
     let values: Vec<u32> = bytes(line.field(1)).chunks(4).map(value).collect();
     let outcome = written_twice(line.lent(), |out| narrow(&line.log(), &values, out));
+    same(&wrote(&outcome), line.answer)
+}
+
+pub fn play_page(line: &Line) -> Agreement {
+    let outcome = written_twice(line.lent(), |out| page(&line.log(), out));
     same(&wrote(&outcome), line.answer)
 }
 

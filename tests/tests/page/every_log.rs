@@ -1,0 +1,53 @@
+//! The pages of all logs of few records, held against the model's line by line. The logs are those
+//! of `enumerate`; their ticks rise by one but for one test.
+
+use yauponroof_tests::compare::page::Pages;
+use yauponroof_tests::logs::enumerate::{
+    every_log, every_log_of_new_clients, every_log_of_paired_operations,
+};
+use yauponroof_tests::model::record::Record;
+use yauponroof_tests::model::writer::log;
+
+#[test]
+fn every_log_of_up_to_six_records() {
+    let mut pages = Pages::new();
+    every_log(6, &mut |records| {
+        pages.compare(&log(records));
+    });
+    assert_eq!(pages.seen(0), 6684);
+}
+
+#[test]
+fn every_log_of_up_to_seven_records_with_a_client_for_each_operation() {
+    let mut pages = Pages::new();
+    every_log_of_new_clients(7, &mut |records| {
+        pages.compare(&log(records));
+    });
+    assert_eq!(pages.seen(0), 17_852);
+}
+
+#[test]
+fn every_log_of_up_to_four_paired_operations() {
+    let mut pages = Pages::new();
+    every_log_of_paired_operations(8, &mut |records| {
+        pages.compare(&log(records));
+    });
+    assert_eq!(pages.seen(0), 7045);
+}
+
+#[test]
+fn ticks_mean_nothing() {
+    let mut pages = Pages::new();
+    let steps: [fn(u32) -> u32; 3] = [|_| 0, |_| u32::MAX, |at| at << 28];
+    every_log(5, &mut |records| {
+        for step in steps {
+            let with_tick = |record: &Record| Record {
+                tick: step(record.tick),
+                ..*record
+            };
+            let changed: Vec<Record> = records.iter().map(with_tick).collect();
+            pages.compare(&log(&changed));
+        }
+    });
+    assert_eq!(pages.seen(0), 3 * 832);
+}

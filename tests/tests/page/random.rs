@@ -1,0 +1,123 @@
+//! The pages of logs by chance and of simulated runs, changed ones too, with buffers of any length,
+//! held against the model's line by line.
+
+use yauponroof_tests::compare::page::Pages;
+use yauponroof_tests::logs::changes::{
+    a_call_later, a_return_sooner, an_outcome_changed, neighbours_exchanged, outcomes_exchanged,
+    values_added_exchanged, Change,
+};
+use yauponroof_tests::logs::clients::{clients_apart, DISTANCES};
+use yauponroof_tests::logs::enumerate::{random_log, random_log_of_paired_operations};
+use yauponroof_tests::logs::simulation::{
+    runs_of_all_sizes, runs_with_clients_apart, simulate_load, Clients, Load, Run,
+};
+use yauponroof_tests::model::page::{LINE, PAGE_MAX};
+use yauponroof_tests::model::reader::operation_count;
+use yauponroof_tests::model::record::Record;
+use yauponroof_tests::model::writer::log;
+use yauponroof_tests::random::Random;
+
+/// A length for the buffer: the needed one or close to it, that of some other page, or any.
+fn room(records: &[Record], random: &mut Random) -> usize {
+    let needed = LINE * operation_count(records) as usize;
+    match random.below(8) {
+        0..=2 => needed,
+        3 => needed.saturating_sub(1 + random.below(3)),
+        4 => needed + 1 + random.below(3),
+        5 => LINE * random.below(70),
+        6 => random.below(PAGE_MAX + 100),
+        _ => PAGE_MAX,
+    }
+}
+
+fn compare(records: &[Record], pages: &mut Pages, random: &mut Random) {
+    pages.compare_room(&log(records), room(records, random));
+}
+
+#[test]
+fn logs_by_chance() {
+    let mut random = Random::new(209);
+    let mut pages = Pages::new();
+    for _ in 0..20_000 {
+        let least = random.below(70);
+        let records = random_log(least, &mut random);
+        compare(&records, &mut pages, &mut random);
+    }
+    pages.assert_at_least(&[(0, 10_000), (24, 3000), (30, 2000)]);
+}
+
+#[test]
+fn paired_operations_by_chance() {
+    let mut random = Random::new(210);
+    let mut pages = Pages::new();
+    for _ in 0..4000 {
+        let count = random.below(34);
+        let records = random_log_of_paired_operations(count, &mut random);
+        compare(&records, &mut pages, &mut random);
+    }
+    pages.assert_at_least(&[(0, 2000), (24, 600), (30, 100)]);
+}
+
+/// A run of up to 66 records: as many clients at work, as full a queue and as many open adds as
+/// chance has it.
+fn some_run(random: &mut Random) -> Run {
+    let load = *random.pick(&[Load::Even, Load::Busy]);
+    let workers = 1 + random.below(16) as u16;
+    let clients = *random.pick(&[Clients::Reused, Clients::OnePerOperation]);
+    let n = 2 * random.below(34);
+    let run = simulate_load(load, workers, clients, n, random.next_u64());
+    let percent = *random.pick(&[0, 10, 60]);
+    run.with_pending_adds(percent, random)
+}
+
+#[test]
+fn runs_of_a_queue() {
+    let mut random = Random::new(211);
+    let mut pages = Pages::new();
+    for _ in 0..10_000 {
+        let run = some_run(&mut random);
+        let distance = *random.pick(&DISTANCES);
+        compare(&run.records, &mut pages, &mut random);
+        let apart = clients_apart(&run.records, distance);
+        compare(&apart, &mut pages, &mut random);
+    }
+    pages.assert_at_least(&[(0, 12_000), (24, 3000), (30, 500)]);
+}
+
+const CHANGES: [Change; 6] = [
+    neighbours_exchanged,
+    a_return_sooner,
+    a_call_later,
+    values_added_exchanged,
+    outcomes_exchanged,
+    an_outcome_changed,
+];
+
+#[test]
+fn runs_of_a_queue_changed_in_one_place() {
+    let mut random = Random::new(212);
+    let mut pages = Pages::new();
+    let mut changed = 0;
+    for _ in 0..10_000 {
+        let run = some_run(&mut random);
+        if run.records.len() > 1 {
+            let change = random.pick(&CHANGES);
+            if let Some(records) = change(&run, &mut random) {
+                compare(&records, &mut pages, &mut random);
+                changed += 1;
+            }
+        }
+    }
+    assert!(changed >= 6000, "{changed} runs were changed");
+    pages.assert_at_least(&[(0, 4000), (24, 1000), (30, 100)]);
+}
+
+#[test]
+fn runs_of_all_sizes_have_a_page_or_30() {
+    let mut pages = Pages::new();
+    for run in runs_of_all_sizes().iter().chain(&runs_with_clients_apart()) {
+        pages.compare(&log(&run.records));
+    }
+    assert_eq!(pages.seen(0) + pages.seen(30), 240);
+    pages.assert_at_least(&[(0, 60), (30, 120)]);
+}
