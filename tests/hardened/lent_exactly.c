@@ -107,28 +107,36 @@ yr_answer __wrap_yr_replay(const uint8_t *log, size_t log_len, const uint8_t *sh
     return answer;
 }
 
-yr_answer __real_yr_judge(const uint8_t *log, size_t log_len, uint8_t *sheet, size_t sheet_len);
-yr_answer __wrap_yr_judge(const uint8_t *log, size_t log_len, uint8_t *sheet, size_t sheet_len);
+/* A call that reads a log and writes to a buffer. */
+typedef yr_answer writer(const uint8_t *log, size_t log_len, uint8_t *out, size_t out_len);
 
-yr_answer __wrap_yr_judge(const uint8_t *log, size_t log_len, uint8_t *sheet, size_t sheet_len)
-{
-    uint8_t *lent_log = lend(log, log_len), *lent_sheet = lend_undefined(sheet, sheet_len);
-    yr_answer answer = answered(__real_yr_judge(lent_log, log_len, lent_sheet, sheet_len));
-    take_back_unchanged(lent_log, log, log_len);
-    take_back_written(lent_sheet, sheet, sheet_len, answer);
-    return answer;
-}
-
-yr_answer __real_yr_excerpt(const uint8_t *log, size_t log_len, uint8_t *out, size_t out_len);
-yr_answer __wrap_yr_excerpt(const uint8_t *log, size_t log_len, uint8_t *out, size_t out_len);
-
-yr_answer __wrap_yr_excerpt(const uint8_t *log, size_t log_len, uint8_t *out, size_t out_len)
+/* Such a call, with everything lent exactly. */
+static yr_answer lend_to(writer *call, const uint8_t *log, size_t log_len, uint8_t *out,
+                         size_t out_len)
 {
     uint8_t *lent_log = lend(log, log_len), *lent_out = lend_undefined(out, out_len);
-    yr_answer answer = answered(__real_yr_excerpt(lent_log, log_len, lent_out, out_len));
+    yr_answer answer = answered(call(lent_log, log_len, lent_out, out_len));
     take_back_unchanged(lent_log, log, log_len);
     take_back_written(lent_out, out, out_len, answer);
     return answer;
+}
+
+writer __real_yr_judge, __wrap_yr_judge, __real_yr_excerpt, __wrap_yr_excerpt;
+writer __real_yr_page, __wrap_yr_page;
+
+yr_answer __wrap_yr_judge(const uint8_t *log, size_t log_len, uint8_t *sheet, size_t sheet_len)
+{
+    return lend_to(__real_yr_judge, log, log_len, sheet, sheet_len);
+}
+
+yr_answer __wrap_yr_excerpt(const uint8_t *log, size_t log_len, uint8_t *out, size_t out_len)
+{
+    return lend_to(__real_yr_excerpt, log, log_len, out, out_len);
+}
+
+yr_answer __wrap_yr_page(const uint8_t *log, size_t log_len, uint8_t *page, size_t page_len)
+{
+    return lend_to(__real_yr_page, log, log_len, page, page_len);
 }
 
 yr_answer __real_yr_narrow(const uint8_t *log, size_t log_len, const uint32_t *values, size_t count,
@@ -146,18 +154,6 @@ yr_answer __wrap_yr_narrow(const uint8_t *log, size_t log_len, const uint32_t *v
     take_back_unchanged(lent_log, log, log_len);
     take_back_unchanged(lent_values, values, count * sizeof *values);
     take_back_written(lent_out, out, out_len, answer);
-    return answer;
-}
-
-yr_answer __real_yr_page(const uint8_t *log, size_t log_len, uint8_t *page, size_t page_len);
-yr_answer __wrap_yr_page(const uint8_t *log, size_t log_len, uint8_t *page, size_t page_len);
-
-yr_answer __wrap_yr_page(const uint8_t *log, size_t log_len, uint8_t *page, size_t page_len)
-{
-    uint8_t *lent_log = lend(log, log_len), *lent_page = lend_undefined(page, page_len);
-    yr_answer answer = answered(__real_yr_page(lent_log, log_len, lent_page, page_len));
-    take_back_unchanged(lent_log, log, log_len);
-    take_back_written(lent_page, page, page_len, answer);
     return answer;
 }
 
