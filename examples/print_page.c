@@ -20,14 +20,21 @@ static int trouble_with(const char *file)
     return TROUBLE;
 }
 
+static int refused(yr_answer answer)
+{
+    if (YR_REFUSED(answer) == YR_REFUSAL_PAGE)
+        fprintf(stderr, "the log has no page: it has more than %d records\n", YR_PAGE_RECORDS);
+    else
+        fprintf(stderr, "refused %u, record %u\n", YR_REFUSED(answer), YR_VALUE(answer));
+    return TROUBLE;
+}
+
 static int print_page(size_t length)
 {
     yr_answer answer = yr_page(run, length, page, sizeof page);
 
-    if (YR_REFUSED(answer)) {
-        fprintf(stderr, "refused %u, record %u\n", YR_REFUSED(answer), YR_VALUE(answer));
-        return TROUBLE;
-    }
+    if (YR_REFUSED(answer))
+        return refused(answer);
     if (fwrite(page, 1, YR_VALUE(answer), stdout) < YR_VALUE(answer) || fflush(stdout) != 0)
         return trouble_with("standard output");
     return PRINTED;

@@ -90,10 +90,10 @@ static int judge_excerpt(const struct log *log, struct verdict *verdict)
            trouble("the excerpt judged by itself has another verdict");
 }
 
-/* Whether a page has a line for each operation of the log. */
+/* Whether a page has lines, one for each operation of the log. */
 static int is_page_of(const struct page *page, const struct log *log)
 {
-    return page->length <= sizeof page->bytes &&
+    return page->length > 0 && page->length <= sizeof page->bytes &&
            page->length == PAGE_LINE * count_operations(log);
 }
 

@@ -1,6 +1,6 @@
 //! Which answers the library has given, so that a run that no longer reaches some answer is noticed.
 
-use yauponroof_tests::Answer;
+use yauponroof_tests::{Answer, NUMBERS};
 
 /// What is counted: the answers of an entry, and what accepted ones tell.
 #[derive(Clone, Copy)]
@@ -43,9 +43,6 @@ const TO_REACH: [(&str, &[usize]); 14] = [
     ("yr_session_excerpt", &[0, 22, 23, 24, 25]),
 ];
 
-/// The numbers of all answers are below this.
-const NUMBERS: usize = 31;
-
 /// How often each number was reached.
 pub struct Reached([[u64; NUMBERS]; TO_REACH.len()]);
 
@@ -55,11 +52,7 @@ impl Reached {
     }
 
     pub fn count(&mut self, of: Of, answer: Answer) {
-        let number = match answer {
-            Answer::Accepted(_) => 0,
-            Answer::Refused { number, .. } => number,
-        };
-        self.0[of as usize][number as usize] += 1;
+        self.0[of as usize][answer.number()] += 1;
     }
 
     pub fn count_replay(&mut self, answer: Answer) {

@@ -122,13 +122,7 @@ static void check_refused_logs(void)
     log_record(&run, CALL_ADD, 1, 7);
     expect_refused(YR_REFUSAL_VALUE, 2, "7 is added again");
 
-    log_begin(&run);
-    log_record(&run, CALL_ADD, 1, 7);
-    log_record(&run, CALL_REMOVE, 2, 0);
-    expect_refused(YR_REFUSAL_PENDING_REMOVE, 1, "a remove without return");
-
-    log_pending_adds(&run, YR_MAX_RECORDS + 1);
-    expect_refused(YR_REFUSAL_RECORDS, 0, "1,025 adds");
+    log_each_refused(&run, expect_refused);
 
     log_begin(&run);
     run.length = 2;

@@ -91,6 +91,21 @@ static inline void log_pending_adds(struct log *log, unsigned n)
         log_record(log, CALL_ADD, i, i);
 }
 
+/* Writes logs that are not readable, one after the other, and calls `expect` for each with its
+   refusal, the index and what is wrong with it. */
+static inline void log_each_refused(struct log *log,
+                                    void (*expect)(uint32_t, uint32_t, const char *))
+{
+    log_begin(log);
+    log_record(log, CALL_ADD, 1, 7);
+    log_record(log, CALL_REMOVE, 2, 0);
+    expect(YR_REFUSAL_PENDING_REMOVE, 1, "a remove without return");
+    log_record(log, RETURN_ADD, 2, 0);
+    expect(YR_REFUSAL_RETURN, 2, "a remove returns as an add");
+    log_pending_adds(log, YR_MAX_RECORDS + 1);
+    expect(YR_REFUSAL_RECORDS, 0, "1,025 adds");
+}
+
 /* 512 calls, alternately add and remove, then their 512 returns, a client each: call i is by client
    `step * (i / group) + i % group`. In the order all adds come before the removes of their values. */
 static inline void log_calls_then_returns_by(struct log *log, struct sheet *order, unsigned group,

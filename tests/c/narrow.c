@@ -100,18 +100,6 @@ static void expect_refused(uint32_t refusal, uint32_t index, const char *what)
     expect_answer(narrow(values, 1, 0), refusal, index, what);
 }
 
-static void check_refused(void)
-{
-    log_begin(&run);
-    log_record(&run, CALL_ADD, 1, 7);
-    log_record(&run, CALL_REMOVE, 2, 0);
-    expect_refused(YR_REFUSAL_PENDING_REMOVE, 1, "a remove without return");
-    log_record(&run, RETURN_ADD, 2, 0);
-    expect_refused(YR_REFUSAL_RETURN, 2, "a remove returns as an add");
-    log_pending_adds(&run, YR_MAX_RECORDS + 1);
-    expect_refused(YR_REFUSAL_RECORDS, 0, "1,025 adds");
-}
-
 static void check_large(void)
 {
     static uint32_t values[YR_MAX_RECORDS];
@@ -135,7 +123,7 @@ static void check_large(void)
 int main(void)
 {
     check_values();
-    check_refused();
+    log_each_refused(&run, expect_refused);
     check_large();
     return counted();
 }

@@ -39,6 +39,7 @@ static void expect_lines(size_t lines, const char *what)
         expect_answer(make_page(length - 1), YR_REFUSAL_BUFFER, 0, "a byte less than needed");
         count(is_filled(page, 0, sizeof page), "nothing is written to a buffer that is too short");
         expect_answer(make_page(0), YR_REFUSAL_BUFFER, 0, "no bytes for a page with lines");
+        count(is_filled(page, 0, sizeof page), "nothing is written to a buffer of no bytes");
     }
     expect_answer(make_page(length), 0, (uint32_t)length, what);
     count(is_filled(page, length, sizeof page), "the bytes after the page are unchanged");
@@ -138,20 +139,13 @@ static void check_too_many_records(void)
 
 static void check_refused_logs(void)
 {
-    log_begin(&run);
-    log_record(&run, CALL_ADD, 1, 7);
-    log_record(&run, CALL_REMOVE, 2, 0);
-    expect_refused(YR_REFUSAL_PENDING_REMOVE, 1, "a remove without return");
-    log_record(&run, RETURN_ADD, 2, 0);
-    expect_refused(YR_REFUSAL_RETURN, 2, "a remove returns as an add");
+    log_each_refused(&run, expect_refused);
     log_pending_adds(&run, YR_PAGE_RECORDS + 1);
     run.length--;
     expect_refused(YR_REFUSAL_BYTES, YR_PAGE_RECORDS, "the bytes end inside record 63");
     log_pending_adds(&run, YR_PAGE_RECORDS);
     log_record(&run, CALL_ADD, YR_PAGE_RECORDS, 0);
     expect_refused(YR_REFUSAL_VALUE, YR_PAGE_RECORDS, "the last of 64 adds repeats a value");
-    log_pending_adds(&run, YR_MAX_RECORDS + 1);
-    expect_refused(YR_REFUSAL_RECORDS, 0, "1,025 adds");
 }
 
 int main(void)

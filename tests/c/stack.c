@@ -332,12 +332,22 @@ static void measure_longest_sheet(struct log *log, struct sheet *order)
     measure_all(log, order, 682, 682, "341 adds that do not return, all removed");
 }
 
+/* The longest page with the longest values: each has ten digits, which nested calls write. */
+static void measure_page_of_digits(struct log *log)
+{
+    log_begin(log);
+    for (unsigned i = 0; i < YR_PAGE_RECORDS; i++)
+        log_record(log, CALL_ADD, i, 4294967295u - i);
+    measure_page(log, YR_PAGE_RECORDS, "63 adds of ten digits that never return");
+}
+
 /* Logs that have a page: the longest page, a run of 8 clients, and one of many empty removes. */
 static void measure_pages(struct log *log, struct sheet *order)
 {
     log_pending_adds(log, YR_PAGE_RECORDS);
     sheet_begin(order);
     measure_all(log, order, YR_PAGE_RECORDS, 0, "63 adds that never return");
+    measure_page_of_digits(log);
     log_simulate_page(log, order);
     measure_all(log, order, 32, 31, "63 records, 8 clients at work");
     log_relay(log, order, 10, 10, LAST_FALSE);

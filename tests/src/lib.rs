@@ -11,4 +11,4 @@ pub mod model;
 pub mod random;
 mod terms;
 
-pub use terms::{answered, refused, Answer, Outcome, Session, NO, YES};
+pub use terms::{answered, refused, Answer, Outcome, Session, NO, NUMBERS, YES};

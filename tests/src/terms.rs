@@ -10,6 +10,19 @@ pub enum Answer {
     Refused { number: u32, index: u32 },
 }
 
+impl Answer {
+    /// The number of the refusal; 0 is accepted.
+    pub fn number(self) -> usize {
+        match self {
+            Answer::Accepted(_) => 0,
+            Answer::Refused { number, .. } => number as usize,
+        }
+    }
+}
+
+/// The numbers of all answers are below this: 30 is the highest of a refusal.
+pub const NUMBERS: usize = 30 + 1;
+
 /// A refusal, in short.
 pub fn refused(number: u32, index: u32) -> Answer {
     Answer::Refused { number, index }

@@ -16,7 +16,7 @@ use Rattle.history.specs.Owners.{Traced}
 use Rattle.history.specs.Table.{tableLength, Entered, Told, Filled, HistoryHeld}
 use Rattle.history.proofs.Numbering.{index-of-rank, rank-step, ranks-rise, ranks-below, next-is-return}
 use Rattle.history.proofs.Entries.{entry-stays}
-use Rattle.history.proofs.Owning.{operation-called, owner-called, operation-answered, call-before, operation-returned}
+use Rattle.history.proofs.Owning.{operation-called, owner-called, operation-answered, call-before, returned-by}
 use Rattle.history.proofs.Tracing.{traced-none}
 
 -- before the first record
@@ -42,9 +42,7 @@ module _ {records : List Record} (regular : Regular records) {n : ℕ} (h : n < 
 
   -- no other operation returns here
   alone : (p : ℕ) → p < count → returnIndex records (callIndex records p) ≡ n → p ≡ o
-  alone p l e =
-      sym (operation-returned regular p (omega (arith, filled .traced .counted, ranks-below records n)) (omega arith))
-      ∙ ap (operationAt records) e ∙ sym is
+  alone p l e = returned-by regular p n (omega (arith, filled .traced .counted, ranks-below records n)) h e ∙ sym is
 
   -- one record more, which is a call
   module _ (c : isCall (recordOf records n .event) ≡ 1) where

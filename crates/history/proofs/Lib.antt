@@ -22,4 +22,5 @@ pub mod Searching
 pub mod Sheets
 pub mod Tabulating
 pub mod Tracing
+pub mod Walking
 pub mod Writing

@@ -102,12 +102,16 @@ module _ {records : List Record} (regular : Regular records) where
       rw (operation-answered i n next call, index-of-rank records i (omega (arith, next .later)) call) (next-is-return records i n next)
 
   -- the return of an operation is of that operation
-  pub operation-returned : (o : ℕ) → o < operations records → returnIndex records (callIndex records o) < length records
+  operation-returned : (o : ℕ) → o < operations records → returnIndex records (callIndex records o) < length records
       → operationAt records (returnIndex records (callIndex records o)) ≡ o
   operation-returned o h l =
       let call : Called records o = call-of records o h in
       operation-answered (callIndex records o) (returnIndex records (callIndex records o)) (return-is-next records (callIndex records o) l) (call .is-call)
       ∙ call .rank
+
+  -- so no other operation returns there
+  pub returned-by : (o n : ℕ) → o < operations records → n < length records → returnIndex records (callIndex records o) ≡ n → o ≡ operationAt records n
+  returned-by o n h l e = sym (operation-returned o h (omega arith)) ∙ ap (operationAt records) e
 
   -- the operation of a record is one of the log
   pub operation-known : (n : ℕ) → n < length records → operationAt records n < operations records

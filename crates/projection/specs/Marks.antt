@@ -1,5 +1,5 @@
--- What the code keeps while it writes a log out of a log: the operations of the log, which of them are kept, and which records are theirs. What
--- is written can be understood without this file.
+-- What the code keeps while it writes a log out of a log: which operations are kept, and which records are theirs. What is written can be
+-- understood without this file.
 use Prim.Native.Nat.{ℕ, _<_}
 use mathlib.Core.Path.{_≡_}
 use mathlib.Core.Bool.{Bool}
@@ -7,10 +7,10 @@ use mathlib.Core.List.{List}
 use lib.ListN.{length, getD}
 use lib.Dec.{eqb}
 use Rattle.record.specs.declared.record.Record.{Record}
-use Rattle.reader.specs.Log.{maxRecords, readable, readLog, operations}
+use Rattle.reader.specs.Log.{maxRecords, readable, readLog}
 use Rattle.history.specs.History.{History}
-use Rattle.history.specs.Operations.{historyOf, operationAt}
-use Rattle.history.specs.Table.{tabled, Agree, Whole}
+use Rattle.history.specs.Operations.{operationAt}
+use Rattle.history.specs.Table.{tabled}
 use Rattle.projection.specs.Projection.{keeps}
 
 -- the mark of what is kept

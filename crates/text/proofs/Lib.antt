@@ -1,4 +1,4 @@
 pub mod Decimals
 pub mod Examples
 pub mod Putting
-pub mod Running
+pub mod Repeating

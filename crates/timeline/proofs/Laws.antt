@@ -8,7 +8,7 @@ use mathlib.Core.List.{List, [], _∷_}
 use lib.ListN.{length, getD, take, drop, List·getD-append}
 use lib.Seq.{getD-at}
 use lib.Dec.{ltb}
-use borrow.Author.Tests.{le-ltb, lt-leb, le-leb}
+use borrow.Author.Tests.{lt-ltb, le-ltb, lt-leb, le-leb}
 use Rattle.record.specs.Choice.{if_then_else_}
 use Rattle.record.specs.Number.{Bytes}
 use Rattle.record.specs.declared.record.Record.{Record}
@@ -23,8 +23,13 @@ use Rattle.history.specs.History.{Returned}
 use Rattle.history.specs.Operations.{callIndex, historyOf}
 use Rattle.history.proofs.Laws.{history-values}
 use Rattle.history.proofs.Positions.{position-returned}
-use Rattle.timeline.specs.Page.{rightAligned, leftAligned, labelOf, mark, dot, columnOf, columns, pageRecords, lineBytes, returnOf, lineOf, pageOf, pageAnswer}
+use Rattle.timeline.specs.Page.{rightAligned, leftAligned, labelOf, hash, dot, columnOf, columns, pageRecords, lineBytes, pageMax, returnIndexOf, lineOf, pageOf, tooManyRecords, pageAnswer, pageLeaves}
 use Rattle.timeline.proofs.Lines.{joined-length, joined-at, joined-character, column-late, columns-length, left-blank, number-width, label-width, columns-width, fields-length, first-field, first-space, second-field, second-space, from-third}
+
+-- "It refuses with 30 a log of more than 63 records, after the input list and before 24", and leaves the buffer
+pub page-too-long : (records : List Record) → pageRecords < length records → (out : List ℕ)
+    → (pageAnswer (Log.readable records) out ≡ Refused tooManyRecords 0) × (pageLeaves (Log.readable records) out ≡ out)
+page-too-long records l out = rw (lt-ltb pageRecords (length records) l) (refl, refl)
 
 -- the page of a readable log of at most 63 records
 module _ {log : List ℕ} {records : List Record} (readable : ReadableLog log records) (bytes : Bytes log) (short : length records ≤ pageRecords) where
@@ -36,7 +41,7 @@ module _ {log : List ℕ} {records : List Record} (readable : ReadableLog log re
   labelField o = leftAligned 11 (labelOf (historyOf records .kind o) (historyOf records .value o))
 
   abbrev columnField : ℕ → List ℕ
-  columnField o = leftAligned pageRecords (columns (callIndex records o) (returnOf records o) (length records))
+  columnField o = leftAligned pageRecords (columns (callIndex records o) (returnIndexOf records o) (length records))
 
   module _ {o : ℕ} (h : o < operations records) where
     wide-number : length (numberField o) ≡ 4
@@ -46,7 +51,7 @@ module _ {log : List ℕ} {records : List Record} (readable : ReadableLog log re
     wide-label = label-width (historyOf records .kind o) (historyOf records .value o) (history-values readable bytes o h)
 
     wide-columns : length (columnField o) ≡ pageRecords
-    wide-columns = columns-width (callIndex records o) (returnOf records o) (length records) short
+    wide-columns = columns-width (callIndex records o) (returnIndexOf records o) (length records) short
 
     -- "each 80 characters and a line feed"
     pub line-length : length (lineOf records o) ≡ lineBytes
@@ -73,32 +78,32 @@ module _ {log : List ℕ} {records : List Record} (readable : ReadableLog log re
         ∙ List·getD-append (columnField o) (lineFeed ∷ []) 0 i (omega (arith, wide-columns))
 
     -- "each record has one column"
-    line-column : (i : ℕ) → i < length records → getD (lineOf records o) (17 + i) 0 ≡ columnOf (callIndex records o) (returnOf records o) i
+    line-column : (i : ℕ) → i < length records → getD (lineOf records o) (17 + i) 0 ≡ columnOf (callIndex records o) (returnIndexOf records o) i
     line-column i l = at-column i (omega arith)
-        ∙ List·getD-append (columns (callIndex records o) (returnOf records o) (length records)) _ 0 i (omega (arith, columns-length (callIndex records o) (returnOf records o) (length records)))
-        ∙ joined-character (columnOf (callIndex records o) (returnOf records o)) (length records) i l
+        ∙ List·getD-append (columns (callIndex records o) (returnIndexOf records o) (length records)) _ 0 i (omega (arith, columns-length (callIndex records o) (returnIndexOf records o) (length records)))
+        ∙ joined-character (columnOf (callIndex records o) (returnIndexOf records o)) (length records) i l
 
     -- "# from call to return, both included"
-    pub line-marked : (i : ℕ) → callIndex records o ≤ i → i ≤ returnOf records o → i < length records → getD (lineOf records o) (17 + i) 0 ≡ mark
-    line-marked i b e l = line-column i l ∙ rw (le-leb (callIndex records o) i b, le-leb i (returnOf records o) e) refl
+    pub line-hash : (i : ℕ) → callIndex records o ≤ i → i ≤ returnIndexOf records o → i < length records → getD (lineOf records o) (17 + i) 0 ≡ hash
+    line-hash i b e l = line-column i l ∙ rw (le-leb (callIndex records o) i b, le-leb i (returnIndexOf records o) e) refl
 
     -- "or to the last record for an open operation"
-    pub line-open : (Returned (historyOf records) o → ⊥) → (i : ℕ) → callIndex records o ≤ i → i < length records → getD (lineOf records o) (17 + i) 0 ≡ mark
-    line-open pending i b l = go (decLt (returnOf records o) (length records))
+    pub line-open : (Returned (historyOf records) o → ⊥) → (i : ℕ) → callIndex records o ≤ i → i < length records → getD (lineOf records o) (17 + i) 0 ≡ hash
+    line-open pending i b l = go (decLt (returnIndexOf records o) (length records))
       where
-        go : Dec (returnOf records o < length records) → getD (lineOf records o) (17 + i) 0 ≡ mark
-        go (yes r) = absurd (pending (position-returned (readable .partial) (returnOf records o) .1 r))
-        go (no r) = line-marked i b (omega arith) l
+        go : Dec (returnIndexOf records o < length records) → getD (lineOf records o) (17 + i) 0 ≡ hash
+        go (yes r) = absurd (pending (position-returned (readable .partial) (returnIndexOf records o) .1 r))
+        go (no r) = line-hash i b (omega arith) l
 
     -- "else a dot"
-    pub line-dotted : (i : ℕ) → (i < callIndex records o) ⊎ (returnOf records o < i) → i < length records → getD (lineOf records o) (17 + i) 0 ≡ dot
-    line-dotted i (inl b) l = line-column i l ∙ rw (lt-leb (callIndex records o) i b) refl
-    line-dotted i (inr e) l = line-column i l ∙ column-late (callIndex records o) e
+    pub line-dot : (i : ℕ) → (i < callIndex records o) ⊎ (returnIndexOf records o < i) → i < length records → getD (lineOf records o) (17 + i) 0 ≡ dot
+    line-dot i (inl b) l = line-column i l ∙ rw (lt-leb (callIndex records o) i b) refl
+    line-dot i (inr e) l = line-column i l ∙ column-late (callIndex records o) e
 
     -- "Columns behind the last record are spaces."
     pub line-blank : (i : ℕ) → length records ≤ i → i < pageRecords → getD (lineOf records o) (17 + i) 0 ≡ space
     line-blank i l m = at-column i m
-        ∙ left-blank pageRecords (columns (callIndex records o) (returnOf records o) (length records)) i (omega (arith, columns-length (callIndex records o) (returnOf records o) (length records))) m
+        ∙ left-blank pageRecords (columns (callIndex records o) (returnIndexOf records o) (length records)) i (omega (arith, columns-length (callIndex records o) (returnIndexOf records o) (length records))) m
 
     pub line-feed : getD (lineOf records o) 80 0 ≡ lineFeed
     line-feed = from-third (numberField o) (labelField o) (columnField o) wide-number wide-label 63
@@ -117,10 +122,10 @@ module _ {log : List ℕ} {records : List Record} (readable : ReadableLog log re
       ≡ (if ltb (length out) (operations records * lineBytes) then Refused bufferTooShort 0 else Written (operations records * lineBytes))
   page-room out = rw (le-ltb pageRecords (length records) short, page-length) refl
 
-  -- the most bytes of a page are 5,103
-  pub page-short : length (pageOf records) ≤ 5103
+  -- "at most 63 records": so the most bytes of a page
+  pub page-short : length (pageOf records) ≤ pageMax
   page-short = omega (arith, page-length, few-operations records)
 
   -- which are always enough
-  pub page-enough : (out : List ℕ) → 5103 ≤ length out → pageAnswer (Log.readable records) out ≡ Written (operations records * lineBytes)
+  pub page-enough : (out : List ℕ) → pageMax ≤ length out → pageAnswer (Log.readable records) out ≡ Written (operations records * lineBytes)
   page-enough out l = page-room out ∙ rw (le-ltb (length out) (operations records * lineBytes) (omega (arith, page-length, page-short))) refl

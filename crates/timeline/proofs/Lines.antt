@@ -15,7 +15,7 @@ use Rattle.record.specs.Choice.{if_then_else_}
 use Rattle.text.specs.Text.{space, lineFeed, decimal}
 use Rattle.text.proofs.Decimals.{decimal-few}
 use Rattle.history.specs.History.{emptyRemove}
-use Rattle.timeline.specs.Page.{pageRecords, rightAligned, leftAligned, joined, letterOf, labelOf, mark, dot, columnOf, columns, lineBytes, operationLine}
+use Rattle.timeline.specs.Page.{pageRecords, rightAligned, leftAligned, joined, letterOf, labelOf, hash, dot, columnOf, columns, lineBytes, operationLine}
 use Rattle.timeline.specs.Spans.{columnRuns, leftPart, rightPart}
 
 -- texts that are the same, one by one, are the same when they are joined
@@ -88,11 +88,11 @@ joined-run f x a b h all =
 pub column-late : (call : ℕ) {return i : ℕ} → return < i → columnOf call return i ≡ dot
 column-late call {return} {i} l = go (leb call i)
   where
-    go : (b : Bool) → (if b && leb i return then mark else dot) ≡ dot
+    go : (b : Bool) → (if b && leb i return then hash else dot) ≡ dot
     go true = rw (lt-leb i return l) refl
     go false = refl
 
--- so columns are dots, marks, and dots again
+-- so columns are dots, hashes, and dots again
 module _ (call return end n : ℕ) (begun : call ≤ end) (ended : end ≤ return + 1) (within : end ≤ n) (last : (i : ℕ) → end ≤ i → i < n → return < i) where
   -- the text of a column
   abbrev at : ℕ → List ℕ
@@ -108,10 +108,10 @@ module _ (call return end n : ℕ) (begun : call ≤ end) (ended : end ≤ retur
   columns-runs =
       rw (
         joined-run at dot end n within (λ i l m. ap (λ c. c ∷ []) (column-late call (last i l m))),
-        joined-run at mark call end begun (λ i l m. rw (le-leb call i l, le-leb i return (omega arith)) refl),
+        joined-run at hash call end begun (λ i l m. rw (le-leb call i l, le-leb i return (omega arith)) refl),
         before,
       )
-      (append-assoc (replicate call dot) (replicate (end - call) mark) (replicate (n - end) dot))
+      (append-assoc (replicate call dot) (replicate (end - call) hash) (replicate (n - end) dot))
 
 -- the length of a field
 right-length : (width : ℕ) (text : List ℕ) → length text ≤ width → length (rightAligned width text) ≡ width

@@ -23,31 +23,31 @@ use Rattle.history.specs.Operations.{callIndex, historyOf}
 use Rattle.history.specs.Table.{kindAt, valueAt, TableOf}
 use Rattle.history.proofs.Along.{whole-readable}
 use Rattle.history.proofs.Numbering.{call-of, return-behind}
-use Rattle.timeline.specs.Page.{pageRecords, lineBytes, returnOf, lineOf, pageOf, tooManyRecords, pageAnswer, pageLeaves}
+use Rattle.timeline.specs.Page.{pageRecords, lineBytes, returnIndexOf, lineOf, pageOf, tooManyRecords, pageAnswer, pageLeaves}
 use Rattle.timeline.specs.Spans.{endBy, Spanned, SpansAre, Drawable, leftPart, rightPart, linesIn}
 use Rattle.timeline.proofs.Lines.{joined-same, columns-runs, line-parts}
-use Rattle.timeline.proofs.Laws.{page-length}
+use Rattle.timeline.proofs.Laws.{page-too-long, page-length}
 
--- Where the mark of an operation lies that is called before the end: within the columns, from the call to the return or to the end.
-record MarkLies (call return end n : ℕ) : Type 0 where
+-- Where the span of an operation lies: within the columns, from the call to the return or to the end.
+record SpanLies (call return end n : ℕ) : Type 0 where
   begun : call ≤ end
   ended : end ≤ return + 1
   within : end ≤ n
   last : (i : ℕ) → end ≤ i → i < n → return < i
 
-mark-lies : (records : List Record) (o : ℕ) → o < operations records
-    → MarkLies (callIndex records o) (returnOf records o) (endBy records (length records) o) (length records)
-mark-lies records o h = go (decLt (returnOf records o) (length records))
+span-lies : (records : List Record) (o : ℕ) → o < operations records
+    → SpanLies (callIndex records o) (returnIndexOf records o) (endBy records (length records) o) (length records)
+span-lies records o h = go (decLt (returnIndexOf records o) (length records))
   where
-    go : Dec (returnOf records o < length records)
-        → MarkLies (callIndex records o) (returnOf records o) (endBy records (length records) o) (length records)
+    go : Dec (returnIndexOf records o < length records)
+        → SpanLies (callIndex records o) (returnIndexOf records o) (endBy records (length records) o) (length records)
     go (yes l) = rw (lt-ltb _ _ l) (record {
       begun = omega (arith, return-behind records (callIndex records o));
       ended = omega arith;
       within = omega arith;
       last = λ i m k. omega arith;
     })
-    go (no l) = rw (le-ltb (returnOf records o) (length records) (omega arith)) (record {
+    go (no l) = rw (le-ltb (returnIndexOf records o) (length records) (omega arith)) (record {
       begun = omega (arith, call-of records o h .below);
       ended = omega arith;
       within = omega arith;
@@ -69,7 +69,9 @@ module _ {log : List ℕ} {n m : ℕ} {table : List ℕ} (known : TableOf log n 
 
   -- a log that is too long has no page
   pub page-refused : (out : List ℕ) → pageRecords < n → (Refused tooManyRecords 0 ≡ pageAnswer (readLog log) out) × (out ≡ pageLeaves (readLog log) out)
-  page-refused out l = rw (known .whole .reads, lt-ltb pageRecords (length (known .whole .records)) (omega (arith, known .whole .counted))) (refl, refl)
+  page-refused out l =
+      let refused = page-too-long (known .whole .records) (omega (arith, known .whole .counted)) out in
+      rw (known .whole .reads) (sym (refused .0), sym (refused .1))
 
   module _ (short : n ≤ pageRecords) (bytes : Bytes log) (out : List ℕ) where
     long : length (pageOf (known .whole .records)) ≡ m * lineBytes
@@ -92,14 +94,14 @@ module _ {log : List ℕ} {n m : ℕ} {table : List ℕ} (known : TableOf log n 
           rw (known .whole .reads, in-page) (puts .holds ∙ put-written (pageOf (known .whole .records)) out room),
         )
 
-  -- where the marks lie that are noted
+  -- where the noted spans lie
   module _ {starts ends : List ℕ} (spans : SpansAre log starts ends) where
     spanned : Spanned (known .whole .records) (length (known .whole .records)) (operations (known .whole .records)) starts ends
     spanned = spans .spanned (known .whole .records) (known .whole .reads)
 
     lies : (o : ℕ) → o < operations (known .whole .records)
-        → MarkLies (callIndex (known .whole .records) o) (returnOf (known .whole .records) o) (getD ends o 0) (length (known .whole .records))
-    lies o h = rw (spanned .ends-are o h) (mark-lies (known .whole .records) o h)
+        → SpanLies (callIndex (known .whole .records) o) (returnIndexOf (known .whole .records) o) (getD ends o 0) (length (known .whole .records))
+    lies o h = rw (spanned .ends-are o h) (span-lies (known .whole .records) o h)
 
     pub drawable : n ≤ pageRecords → Drawable starts ends n m
     drawable short = record {
@@ -117,7 +119,7 @@ module _ {log : List ℕ} {n m : ℕ} {table : List ℕ} (known : TableOf log n 
         → leftPart o (kindAt table o) (valueAt table o) ++ rightPart (getD starts o 0) (getD ends o 0) (length (known .whole .records)) ≡ lineOf (known .whole .records) o
     line-is o h =
         let call = callIndex (known .whole .records) o in
-        let return = returnOf (known .whole .records) o in
+        let return = returnIndexOf (known .whole .records) o in
         let l = lies o h in
         let drawn = columns-runs call return (getD ends o 0) (length (known .whole .records)) (l .begun) (l .ended) (l .within) (l .last) in
         let entered : o < m = omega (arith, known .counted) in

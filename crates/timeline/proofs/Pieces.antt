@@ -10,7 +10,7 @@ use borrow.Author.Tests.{eq-eqb, ne-eqb}
 use Rattle.text.specs.Text.{space, lineFeed, decimal, Puts}
 use Rattle.text.proofs.Putting.{puts-more, puts-same}
 use Rattle.history.specs.History.{emptyRemove}
-use Rattle.timeline.specs.Page.{rightAligned, letterOf, labelOf, mark, dot, pageRecords}
+use Rattle.timeline.specs.Page.{rightAligned, letterOf, labelOf, hash, dot, pageRecords}
 use Rattle.timeline.specs.Spans.{columnRuns, leftBytes, leftPart, rightPart}
 
 -- the label of an operation that is an empty remove, or is not
@@ -51,14 +51,14 @@ left-part-put o kind value {at} {d = d} wide short room number blank label rest 
     puts-same (left-pieces (rightAligned 4 (decimal o)) (labelOf kind value) (11 - length (labelOf kind value)))
     (puts-more (puts-more (puts-more number blank room) label room) (rw few at rest) room)
 
--- the right part of a line: dots, marks, dots, spaces up to character 80, and the line feed
+-- the right part of a line: dots, hashes, dots, spaces up to character 80, and the line feed
 runs-length : (start end n : ℕ) → start ≤ end → end ≤ n → length (columnRuns start end n) ≡ n
 runs-length start end n l m = omega (
   arith,
-  length-append (replicate start dot) (replicate (end - start) mark ++ replicate (n - end) dot),
-  length-append (replicate (end - start) mark) (replicate (n - end) dot),
+  length-append (replicate start dot) (replicate (end - start) hash ++ replicate (n - end) dot),
+  length-append (replicate (end - start) hash) (replicate (n - end) dot),
   length-replicate start dot,
-  length-replicate (end - start) mark,
+  length-replicate (end - start) hash,
   length-replicate (n - end) dot,
 )
 
@@ -68,13 +68,13 @@ between at x y e = omega arith
 
 pub right-part-put : (start end n : ℕ) {at a b c d next : ℕ} {t t₁ t₂ t₃ t₄ t₅ : List ℕ} → start ≤ end → end ≤ n → at ≤ length t
     → (a ≡ at + start) × Puts (replicate ((at + start) - at) dot) at t a t₁
-    → (b ≡ at + end) × Puts (replicate ((at + end) - a) mark) a t₁ b t₂
+    → (b ≡ at + end) × Puts (replicate ((at + end) - a) hash) a t₁ b t₂
     → (c ≡ at + n) × Puts (replicate ((at + n) - b) dot) b t₂ c t₃
     → Puts (replicate ((at + pageRecords) - c) space) c t₃ d t₄ → Puts (lineFeed ∷ []) d t₄ next t₅ → Puts (rightPart start end n) at t next t₅
-right-part-put start end n {at} {a} {b} {c} l m room (e, dots) (f, marks) (g, more) spaces feed =
+right-part-put start end n {at} {a} {b} {c} l m room (e, dots) (f, hashes) (g, more) spaces feed =
     let k₁ : (at + start) - at ≡ start = omega arith in
     let k₂ = between at start end e in
     let k₃ = between at end n f in
     let k₄ : (at + pageRecords) - c ≡ pageRecords - length (columnRuns start end n) = rw (runs-length start end n l m) (between at n pageRecords g) in
-    let drawn = puts-more (puts-more (rw k₁ at dots) (rw k₂ at marks) room) (rw k₃ at more) room in
-    puts-more (puts-more (rw (append-assoc (replicate start dot) (replicate (end - start) mark) (replicate (n - end) dot)) at drawn) (rw k₄ at spaces) room) feed room
+    let drawn = puts-more (puts-more (rw k₁ at dots) (rw k₂ at hashes) room) (rw k₃ at more) room in
+    puts-more (puts-more (rw (append-assoc (replicate start dot) (replicate (end - start) hash) (replicate (n - end) dot)) at drawn) (rw k₄ at spaces) room) feed room

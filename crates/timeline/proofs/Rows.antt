@@ -26,8 +26,8 @@ pub pages-drawn : Each Drawn pages
 unfolding reading recordsFrom operations callIndex firstOf digits joined linesOf
 pages-drawn = rows-drawn pages refl refl
 
--- What is answered for a buffer of no bytes. "It refuses with 30 a log of more than 63 records, .. before 24": of 64 records and of 63,
--- whatever they are. The page of a log of no records needs no room.
+-- What is answered for 64 records, for 63 and for none, where the buffer has no bytes: the numbers of document 02, computed. `page-too-long`
+-- and `page-room` say it of all records and buffers.
 abbrev records : ℕ → List Record
 records n = replicate n (record { client = 0; tick = 0; event = CallAdd 0 })
 

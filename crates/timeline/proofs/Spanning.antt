@@ -1,8 +1,8 @@
--- The loop that finds where the mark of each operation begins and ends.
+-- The loop that finds where the span of each operation begins and ends.
 use Prim.Native.Nat.{ℕ, _+_, _≤_, _<_}
 use native.Mathlib.Omega.{arith}
 use native.Mathlib.Decide.{decLt, ℕ-discrete}
-use mathlib.Core.Path.{_≡_, refl, sym, ap, _∙_}
+use mathlib.Core.Path.{_≡_, refl, sym, _∙_}
 use mathlib.Core.List.{List}
 use lib.ListN.{length, getD, set, take, length-set, replicate}
 use lib.Seq.{getD-set-same, getD-set-other, take-length}
@@ -10,20 +10,20 @@ use borrow.Author.Tests.{lt-ltb, le-ltb, eq-eqb, ne-eqb}
 use Rattle.record.specs.Record.{decodeAt}
 use Rattle.record.specs.declared.record.Record.{Record}
 use Rattle.record.specs.declared.record.Decoded.{Decoded}
-use Rattle.record.specs.declared.record.Decoded.the-variants.{Found, Malformed}
+use Rattle.record.specs.declared.record.Decoded.the-variants.{Found}
 use Rattle.reader.specs.Log.{headerLength, maxRecords, isCall, operations}
 use Rattle.reader.specs.Readable.{recordOf, Regular}
 use Rattle.reader.proofs.Laws.{few-operations}
 use Rattle.history.specs.Operations.{callIndex, operationAt}
-use Rattle.history.specs.Owners.{Traced, CallersRoom, Owned}
+use Rattle.history.specs.Owners.{Owned}
 use Rattle.history.specs.Table.{Whole}
 use Rattle.history.specs.declared.owners.Owner.{Owner}
-use Rattle.history.proofs.Along.{whole-one, Along, along-start, along-found, along-here, along-next}
+use Rattle.history.proofs.Along.{whole-one}
 use Rattle.history.proofs.Events.{isCall-small}
 use Rattle.history.proofs.Numbering.{rank-step, ranks-below, return-behind}
-use Rattle.history.proofs.Owning.{operation-called, owner-called, owner-returned, operation-returned, operation-known}
-use Rattle.history.proofs.Tracing.{traced-none, traced-room}
-use Rattle.timeline.specs.Page.{pageRecords, returnOf}
+use Rattle.history.proofs.Owning.{operation-called, owner-called, owner-returned, returned-by, operation-known}
+use Rattle.history.proofs.Walking.{Walking, walking-starts, walking-regular, walking-below, walking-here, walking-owner, walking-next}
+use Rattle.timeline.specs.Page.{pageRecords, returnIndexOf}
 use Rattle.timeline.specs.Spans.{endBy, Spanned, SpanNoted, SpansAre}
 
 -- one record more, which is operation o's
@@ -33,15 +33,14 @@ module _ {records : List Record} (regular : Regular records) {n : ℕ} (h : n < 
   pub owner-small : o < pageRecords
   owner-small = omega (arith, operation-known regular n h, few-operations records)
 
-  -- the marks of the others end where they did
+  -- the spans of the others end where they did
   same-end : (p : ℕ) → p < count → (p ≡ o → ⊥) → endBy records (n + 1) p ≡ endBy records n p
-  same-end p l d = go (decLt (returnOf records p) n) (ℕ-discrete (returnOf records p) n)
+  same-end p l d = go (decLt (returnIndexOf records p) n) (ℕ-discrete (returnIndexOf records p) n)
     where
-      go : Dec (returnOf records p < n) → Dec (returnOf records p ≡ n) → endBy records (n + 1) p ≡ endBy records n p
-      go (yes b) e = rw (lt-ltb (returnOf records p) (n + 1) (omega arith), lt-ltb (returnOf records p) n b) refl
-      go (no b) (yes e) =
-          absurd (d (sym (operation-returned regular p (omega (arith, ranks-below records n)) (omega arith)) ∙ ap (operationAt records) e ∙ sym is))
-      go (no b) (no e) = rw (le-ltb (returnOf records p) (n + 1) (omega arith), le-ltb (returnOf records p) n (omega arith)) refl
+      go : Dec (returnIndexOf records p < n) → Dec (returnIndexOf records p ≡ n) → endBy records (n + 1) p ≡ endBy records n p
+      go (yes b) e = rw (lt-ltb (returnIndexOf records p) (n + 1) (omega arith), lt-ltb (returnIndexOf records p) n b) refl
+      go (no b) (yes e) = absurd (d (returned-by regular p n (omega (arith, ranks-below records n)) h e ∙ sym is))
+      go (no b) (no e) = rw (le-ltb (returnIndexOf records p) (n + 1) (omega arith), le-ltb (returnIndexOf records p) n (omega arith)) refl
 
   -- and that of operation o where it is noted
   ends-set : (end : ℕ) → end ≡ endBy records (n + 1) o → (p : ℕ) → ((p ≡ o → ⊥) → p < count) → getD (set ends o end) p 0 ≡ endBy records (n + 1) p
@@ -67,7 +66,7 @@ module _ {records : List Record} (regular : Regular records) {n : ℕ} (h : n < 
       own = rw is (owner-called records n h c)
 
       pending : length records ≡ endBy records (n + 1) o
-      pending = rw (le-ltb (returnOf records o) (n + 1) (omega (arith, own, return-behind records (callIndex records o)))) refl
+      pending = rw (le-ltb (returnIndexOf records o) (n + 1) (omega (arith, own, return-behind records (callIndex records o)))) refl
 
       begins : (p : ℕ) → p < count + 1 → Dec (p ≡ o) → getD (set starts o n) p 0 ≡ callIndex records p
       begins p l (yes e) = rw (e, own) (getD-set-same starts o n 0 (omega (arith, spanned .starts-sized, owner-small)))
@@ -84,8 +83,8 @@ module _ {records : List Record} (regular : Regular records) {n : ℕ} (h : n < 
     where
       returned : n + 1 ≡ endBy records (n + 1) o
       returned =
-          let here : returnOf records o ≡ n = rw is (owner-returned regular n h c) in
-          rw (lt-ltb (returnOf records o) (n + 1) (omega arith)) (omega arith)
+          let here : returnIndexOf records o ≡ n = rw is (owner-returned regular n h c) in
+          rw (lt-ltb (returnIndexOf records o) (n + 1) (omega arith)) (omega arith)
 
 -- one record more, whichever of the two it is
 pub spanned-more : {records : List Record} → Regular records → {n : ℕ} → n < length records → length records ≤ pageRecords
@@ -109,78 +108,61 @@ spanned-more {records} regular {n} h short {count} {count'} counted is more {sta
         let one : count' ≡ count + 1 = omega (arith, step) in
         rw (one, rw begun at (noted .starts-are), rw begun at (noted .ends-are)) (spanned-call regular h short counted is spanned call)
 
+-- all records
+spanned-all : {records : List Record} {n count : ℕ} {starts ends : List ℕ} → Spanned records n count starts ends → n ≡ length records
+    → count ≡ operations (take n records) → Spanned records (length records) (operations records) starts ends
+spanned-all {records} {count = count} spanned last counted =
+    let called : count ≡ operations records = rw (last, take-length records) at counted in
+    rw (last, called) at spanned
+
 -- The loop of `span` has come to record i.
 pub record Spanning (log : List ℕ) (end : ℕ) (callers recent starts ends : List ℕ) (at count i : ℕ) : Type 0 where
-  -- of a readable log, which is short and stands at this offset
-  pub whole : Whole log end
+  pub walking : Walking log end callers recent at count i
+  -- the log is short
   pub short : end ≤ pageRecords
-  pub along : Along log (whole .records) at i
-  -- the callers in the records before it are noted
-  pub traced : Traced (whole .records) i count callers recent
-  -- and the marks of their operations
-  pub spanned : Spanned (whole .records) i count starts ends
+  -- the spans of the operations called before it are noted
+  pub spanned : Spanned (walking .whole .records) i count starts ends
 
 pub spanning-starts : {log starts ends : List ℕ} {end : ℕ} → Whole log end → end ≤ pageRecords → length starts ≡ pageRecords → length ends ≡ pageRecords
     → Spanning log end (replicate maxRecords 0) (replicate maxRecords 0) starts ends headerLength 0 0
 spanning-starts whole short s e = record {
-  whole = whole;
+  walking = walking-starts whole;
   short = short;
-  along = along-start whole;
-  traced = traced-none (whole .records);
   spanned = record { starts-sized = s; ends-sized = e; starts-are = λ o l. absurd (omega arith); ends-are = λ o l. absurd (omega arith) };
 }
 
 module _ {log callers recent starts ends : List ℕ} {end at count i : ℕ} (spanning : Spanning log end callers recent starts ends at count i) where
+  -- the records of the log
+  abbrev all : List Record
+  all = spanning .walking .whole .records
+
   pub spanning-ends : end ≤ i → SpansAre log starts ends
-  spanning-ends l = record { spanned = λ records reads. rw (whole-one (spanning .whole) records reads) at all }
-    where
-      last : i ≡ length (spanning .whole .records)
-      last = omega (arith, spanning .along .within, spanning .whole .counted)
+  spanning-ends l =
+      let last : i ≡ length all = omega (arith, spanning .walking .along .within, spanning .walking .whole .counted) in
+      record { spanned = λ records reads. rw (whole-one (spanning .walking .whole) records reads) at (spanned-all (spanning .spanned) last (spanning .walking .traced .counted)) }
 
-      counted : count ≡ operations (spanning .whole .records)
-      counted = rw (last, take-length (spanning .whole .records)) at (spanning .traced .counted)
+  module _ (l : i < end) {r : Record} {next : ℕ} {d : Decoded} (e : d ≡ decodeAt log at) (f : d ≡ Found r next)
+      {owner : Owner} {callers' recent' : List ℕ} (owned : Owned r count callers recent owner callers' recent') where
+    regular : Regular all
+    regular = walking-regular (spanning .walking)
 
-      all : Spanned (spanning .whole .records) (length (spanning .whole .records)) (operations (spanning .whole .records)) starts ends
-      all = rw (last, counted) at (spanning .spanned)
+    short-log : length all ≤ pageRecords
+    short-log = omega (arith, spanning .walking .whole .counted, spanning .short)
 
-  module _ (l : i < end) where
-    below : i < length (spanning .whole .records)
-    below = omega (arith, spanning .whole .counted)
+    -- the record's operation has an entry
+    pub spanning-small : (owner .operation < pageRecords) × (i < pageRecords)
+    spanning-small = (
+      owner-small regular (walking-below (spanning .walking) l) short-log (spanning .walking .traced .counted) (walking-owner (spanning .walking) l e f owned) (spanning .spanned),
+      omega (arith, spanning .short),
+    )
 
-    pub spanning-found : {number : ℕ} {d : Decoded} → d ≡ decodeAt log at → d ≡ Malformed number → ⊥
-    spanning-found = along-found (spanning .along) below
-
-    pub spanning-room : CallersRoom count callers recent
-    spanning-room = traced-room below (spanning .along .readable .partial .regular .few) (spanning .traced)
-
-    module _ {r : Record} {next : ℕ} {d : Decoded} (e : d ≡ decodeAt log at) (f : d ≡ Found r next)
-        {owner : Owner} {callers' recent' : List ℕ} (owned : Owned r count callers recent owner callers' recent') where
-      regular : Regular (spanning .whole .records)
-      regular = spanning .along .readable .partial .regular
-
-      here : recordOf (spanning .whole .records) i ≡ r
-      here = along-here (spanning .along) below e f
-
-      is : owner .operation ≡ operationAt (spanning .whole .records) i
-      is = owned .is (spanning .whole .records) i regular below here (spanning .traced)
-
-      short-log : length (spanning .whole .records) ≤ pageRecords
-      short-log = omega (arith, spanning .whole .counted, spanning .short)
-
-      traced : Traced (spanning .whole .records) (i + 1) (owner .count) callers' recent'
-      traced = owned .traced (spanning .whole .records) i regular below here (spanning .traced)
-
-      -- the record's operation has an entry
-      pub spanning-small : (owner .operation < pageRecords) × (i < pageRecords)
-      spanning-small =
-          (owner-small regular below short-log (spanning .traced .counted) is (spanning .spanned), omega (arith, spanning .short))
-
-      pub spanning-next : {starts' ends' : List ℕ} → SpanNoted (r .event) (owner .operation) i end starts ends starts' ends'
-          → Spanning log end callers' recent' starts' ends' next (owner .count) (i + 1)
-      spanning-next noted = record {
-        whole = spanning .whole;
-        short = spanning .short;
-        along = along-next (spanning .along) below e f;
-        traced = traced;
-        spanned = spanned-more regular below short-log (spanning .traced .counted) is (traced .counted) (spanning .spanned) (rw (here, spanning .whole .counted) noted);
-      }
+    pub spanning-next : {starts' ends' : List ℕ} → SpanNoted (r .event) (owner .operation) i end starts ends starts' ends'
+        → Spanning log end callers' recent' starts' ends' next (owner .count) (i + 1)
+    spanning-next noted = record {
+      walking = walking-next (spanning .walking) l e f owned;
+      short = spanning .short;
+      spanned =
+          spanned-more regular (walking-below (spanning .walking) l) short-log (spanning .walking .traced .counted) (walking-owner (spanning .walking) l e f owned)
+          (walking-next (spanning .walking) l e f owned .traced .counted) (spanning .spanned)
+          (rw (walking-here (spanning .walking) l e f owned, spanning .walking .whole .counted) noted);
+    }

@@ -43,8 +43,8 @@ abbrev pub labelOf : ℕ → ℕ → List ℕ
 labelOf kind value = letterOf kind ∷ (if eqb kind emptyRemove then [] else decimal value)
 
 -- the characters # and .
-abbrev pub mark : ℕ
-mark = 35
+abbrev pub hash : ℕ
+hash = 35
 
 abbrev pub dot : ℕ
 dot = 46
@@ -52,7 +52,7 @@ dot = 46
 -- "# from call to return, both included, or to the last record for an open operation, else a dot": the column of the record with
 -- index i, by the indices of the operation's call and return
 abbrev pub columnOf : ℕ → ℕ → ℕ → ℕ
-columnOf call return i = if leb call i && leb i return then mark else dot
+columnOf call return i = if leb call i && leb i return then hash else dot
 
 -- "From 18 on each record has one column": those of the first n records
 abbrev pub columns : ℕ → ℕ → ℕ → List ℕ
@@ -65,6 +65,10 @@ pageRecords = 63
 abbrev pub lineBytes : ℕ
 lineBytes = 81
 
+-- the most bytes of a page: 81 for each of 63 operations
+abbrev pub pageMax : ℕ
+pageMax = 5103
+
 -- The line of an operation of a log of n records. "Characters 1 to 4 hold the operation number, right-aligned; 5 and 17 are spaces.
 -- Characters 6 to 16 hold" the label, "left-aligned"; "columns behind the last record are spaces."
 abbrev pub operationLine : (o kind value call return n : ℕ) → List ℕ
@@ -74,12 +78,12 @@ operationLine o kind value call return n =
     leftAligned pageRecords (columns call return n) ++ (lineFeed ∷ [])))))
 
 -- the index of an operation's return; of an open operation it is the number of records, which no record has
-abbrev pub returnOf : List Record → ℕ → ℕ
-returnOf records o = returnIndex records (callIndex records o)
+abbrev pub returnIndexOf : List Record → ℕ → ℕ
+returnIndexOf records o = returnIndex records (callIndex records o)
 
 abbrev pub lineOf : List Record → ℕ → List ℕ
 lineOf records o =
-    operationLine o (historyOf records .kind o) (historyOf records .value o) (callIndex records o) (returnOf records o) (length records)
+    operationLine o (historyOf records .kind o) (historyOf records .value o) (callIndex records o) (returnIndexOf records o) (length records)
 
 abbrev pub pageOf : List Record → List ℕ
 pageOf records = joined (lineOf records) (operations records)

@@ -1,4 +1,4 @@
--- What the code keeps of the operations of a short log: where the mark of each begins, and where it ends. What a page is can be
+-- What the code keeps of the operations of a short log: where the span of each begins, and where it ends. What a page is can be
 -- understood without this file.
 use Prim.Native.Nat.{ℕ, _+_, _-_, _≤_, _<_}
 use mathlib.Core.Path.{_≡_}
@@ -12,35 +12,35 @@ use Rattle.text.specs.Text.{space, lineFeed, decimal}
 use Rattle.reader.specs.Log.{readable, readLog, isCall, operations}
 use Rattle.history.specs.Operations.{callIndex}
 use Rattle.history.specs.Table.{kindAt, valueAt}
-use Rattle.timeline.specs.Page.{rightAligned, leftAligned, joined, labelOf, mark, dot, pageRecords, returnOf}
+use Rattle.timeline.specs.Page.{rightAligned, leftAligned, joined, labelOf, hash, dot, pageRecords, returnIndexOf}
 
--- where the mark of an operation ends, by the first n records: after its return, or after the last record
+-- where the span of an operation ends, by the first n records: after its return, or after the last record
 abbrev pub endBy : List Record → ℕ → ℕ → ℕ
 endBy records n o =
-    if ltb (returnOf records o) n then returnOf records o + 1 else length records
+    if ltb (returnIndexOf records o) n then returnIndexOf records o + 1 else length records
 
--- The marks of the operations that the first n records call are noted.
+-- The spans of the operations that the first n records call are noted.
 pub record Spanned (records : List Record) (n count : ℕ) (starts ends : List ℕ) : Type 0 where
   pub starts-sized : length starts ≡ pageRecords
   pub ends-sized : length ends ≡ pageRecords
   pub starts-are : (o : ℕ) → o < count → getD starts o 0 ≡ callIndex records o
   pub ends-are : (o : ℕ) → o < count → getD ends o 0 ≡ endBy records n o
 
--- A record of operation o with this index and event is noted, of a log of n records: a call begins the mark, and a return ends it.
+-- A record of operation o with this index and event is noted, of a log of n records: a call begins the span, and a return ends it.
 pub record SpanNoted (event : Event) (o index n : ℕ) (starts ends starts' ends' : List ℕ) : Type 0 where
   pub starts-are : starts' ≡ (if eqb (isCall event) 0 then starts else set starts o index)
   pub ends-are : ends' ≡ set ends o (if eqb (isCall event) 0 then index + 1 else n)
 
--- The marks of all operations of a log are noted.
+-- The spans of all operations of a log are noted.
 pub record SpansAre (log starts ends : List ℕ) : Type 0 where
   pub spanned : (records : List Record) → readLog log ≡ readable records
       → Spanned records (length records) (operations records) starts ends
 
--- columns of n records: dots, a mark from `start` on and up to `end`, and dots again
+-- columns of n records: dots, hashes from `start` on and up to `end`, and dots again
 abbrev pub columnRuns : ℕ → ℕ → ℕ → List ℕ
-columnRuns start end n = replicate start dot ++ (replicate (end - start) mark ++ replicate (n - end) dot)
+columnRuns start end n = replicate start dot ++ (replicate (end - start) hash ++ replicate (n - end) dot)
 
--- The marks of the first m operations of a log of n records can be drawn: they lie within its columns.
+-- The spans of the first m operations of a log of n records can be drawn: they lie within its columns.
 pub record Drawable (starts ends : List ℕ) (n m : ℕ) : Type 0 where
   pub short : n ≤ pageRecords
   pub few : m ≤ n

@@ -19,7 +19,7 @@ const LEFT: usize = 17;
 
 const DOT: u8 = b'.';
 
-const MARK: u8 = b'#';
+const HASH: u8 = b'#';
 
 // A for an add, R for a remove, E for an empty one.
 fn letter_of(kind: u32) -> u8
@@ -64,7 +64,7 @@ pub(crate) fn put_operation(text: &mut [u8], at: usize, o: usize, kind: u32, val
     put_run(text, end, at + LEFT, SPACE)
 }
 
-// Writes characters 18 to 80 of a line, with a mark in the columns of these records, and the line feed.
+// Writes characters 18 to 80 of a line, with # in the columns from `start` on and up to `end`, and the line feed.
 pub(crate) fn put_columns(
     text: &mut [u8],
     at: usize,
@@ -75,8 +75,8 @@ pub(crate) fn put_columns(
     requires { ⌜ (at + rightBytes ≤ length (now text)) × (start ≤ end) × (end ≤ records) × (records ≤ pageRecords) ⌝ }
     ensures { λ next. ⌜ (next ≡ at + rightBytes) × Puts (rightPart start end records) at (now (text .entry)) next (now (text .exit)) ⌝ }
 {
-    let mark = put_run(text, at, at + start, DOT);
-    let dots = put_run(text, mark, at + end, MARK);
+    let hashes = put_run(text, at, at + start, DOT);
+    let dots = put_run(text, hashes, at + end, HASH);
     let spaces = put_run(text, dots, at + records, DOT);
     let last = put_run(text, spaces, at + PAGE_RECORDS, SPACE);
     end_line(text, last)

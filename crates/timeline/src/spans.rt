@@ -19,9 +19,9 @@ pub const PAGE_RECORDS: usize = 63;
 // An index for each operation of such a log.
 pub type ByOperation = [usize; PAGE_RECORDS];
 
-// Notes a record of operation o, which has this index. A call begins the mark of its operation, which runs to the last record unless a
+// Notes a record of operation o, which has this index. A call begins the span of its operation, which runs to the last record unless a
 // return ends it.
-fn note(
+fn note_span(
     event: Event,
     o: usize,
     index: usize,
@@ -40,7 +40,7 @@ fn note(
     ends[o] = records;
 }
 
-// Finds where the mark of each operation of a readable log begins and ends.
+// Finds where the span of each operation of a readable log begins and ends.
 pub(crate) fn span(log: &[u8], records: usize, starts: &mut ByOperation, ends: &mut ByOperation)
     requires { ⌜ Whole (now log) records × (records ≤ pageRecords)
         × (length (now starts) ≡ pageRecords) × (length (now ends) ≡ pageRecords) ⌝ }
@@ -60,7 +60,7 @@ pub(crate) fn span(log: &[u8], records: usize, starts: &mut ByOperation, ends: &
             Decoded::Found { record, next } => {
                 let event = record.event;
                 let owner = owner_of(record, count, &mut callers, &mut recent);
-                note(event, owner.operation, i, records, starts, ends);
+                note_span(event, owner.operation, i, records, starts, ends);
                 count = owner.count;
                 at = next;
             }

@@ -39,7 +39,7 @@ enum { NOTHING, LOG, ORDER, EXCERPT, LOG_OF_EXCERPT, PAGE };
 #define REFUSING ((yr_answer)REFUSAL << 32 | 5)
 
 /* The excerpt of every log has open adds alone, each by a client of its own. It is known by its length:
-   the rounds have no fewer operations, all have returned, and each takes 16 bytes or more. */
+   the check's rounds have no fewer operations, all have returned, and each takes 16 bytes or more. */
 enum { EXCERPT_LENGTH = 3 + 12 * EXCERPT_ADDS };
 
 yr_answer yr_judge(const uint8_t *log, size_t log_len, uint8_t *sheet, size_t sheet_len)
@@ -66,8 +66,8 @@ yr_answer yr_excerpt(const uint8_t *log, size_t log_len, uint8_t *out, size_t ou
     if (REFUSED == EXCERPT)
         return REFUSING;
     memcpy(out, header, sizeof header);
-    for (uint8_t i = 0; i < EXCERPT_ADDS; i++) {
-        const uint8_t call[] = {11, 1, 0, i, 0, 0, 0, 0, 0, 0, 0, i};
+    for (int i = 0; i < EXCERPT_ADDS; i++) {
+        const uint8_t call[] = {11, 1, 0, (uint8_t)i, 0, 0, 0, 0, 0, 0, 0, (uint8_t)i};
         memcpy(out + sizeof header + i * sizeof call, call, sizeof call);
     }
     return EXCERPT_LENGTH;

@@ -2,15 +2,15 @@
 
 use crate::hex::show;
 use crate::library::guarded::written_twice;
-use crate::library::outcomes::page_made;
+use crate::library::outcomes::{page_made, PAGE_ROOM};
 use crate::library::page;
-use crate::model::page::{expected, PAGE_MAX};
-use crate::{answered, Answer, Outcome};
+use crate::model::page::expected;
+use crate::{answered, Answer, Outcome, NUMBERS};
 
 /// How often each answer was given: at 0 accepted, at the others the refusals of that number.
 #[derive(Debug, Default)]
 pub struct Pages {
-    seen: [u64; 31],
+    seen: [u64; NUMBERS],
 }
 
 impl Pages {
@@ -20,7 +20,7 @@ impl Pages {
 
     /// Makes the page in a buffer that is long enough for any, compares it, and counts the answer.
     pub fn compare(&mut self, log: &[u8]) -> Answer {
-        self.count(log, PAGE_MAX, &page_made(log))
+        self.count(log, PAGE_ROOM, &page_made(log))
     }
 
     /// The same with a buffer of that length.
@@ -40,7 +40,7 @@ impl Pages {
             show(log)
         );
         let answer = answered(outcome);
-        self.seen[place(answer)] += 1;
+        self.seen[answer.number()] += 1;
         answer
     }
 
@@ -59,13 +59,6 @@ impl Pages {
                 self.seen
             );
         }
-    }
-}
-
-fn place(answer: Answer) -> usize {
-    match answer {
-        Answer::Accepted(_) => 0,
-        Answer::Refused { number, .. } => number as usize,
     }
 }
 

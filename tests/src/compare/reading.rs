@@ -55,7 +55,7 @@ impl Tally {
         if self.entries == Entries::All {
             self.compare_others(log, answer);
         }
-        self.seen[place(answer)] += 1;
+        self.seen[answer.number()] += 1;
         answer
     }
 
@@ -103,13 +103,6 @@ impl Tally {
                 self.seen
             );
         }
-    }
-}
-
-fn place(answer: Answer) -> usize {
-    match answer {
-        Answer::Accepted(_) => 0,
-        Answer::Refused { number, .. } => number as usize,
     }
 }
 

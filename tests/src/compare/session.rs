@@ -7,7 +7,7 @@ use crate::library::guarded_session::GuardedSession;
 use crate::library::outcomes::{excerpt_made, judged};
 use crate::model::judged_log::JudgedLog;
 use crate::model::session::State;
-use crate::{Answer, Outcome};
+use crate::{Answer, Outcome, NUMBERS};
 
 /// A session of the library and the one that it must be.
 #[derive(Clone)]
@@ -155,7 +155,7 @@ pub enum Entry {
 
 /// How often each entry gave each answer: at 0 accepted, at the others the refusals of that number.
 #[derive(Debug, Default)]
-pub struct Seen([[u64; 26]; 5]);
+pub struct Seen([[u64; NUMBERS]; 5]);
 
 impl Seen {
     pub fn new() -> Seen {
@@ -163,11 +163,7 @@ impl Seen {
     }
 
     pub fn count(&mut self, entry: Entry, answer: Answer) {
-        let number = match answer {
-            Answer::Accepted(_) => 0,
-            Answer::Refused { number, .. } => number as usize,
-        };
-        self.0[entry as usize][number] += 1;
+        self.0[entry as usize][answer.number()] += 1;
     }
 
     /// Asserts that the entry gave answers of these numbers at least so often, and no others.

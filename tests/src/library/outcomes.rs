@@ -27,7 +27,10 @@ pub fn narrowing_made(log: &[u8], values: &[u32]) -> Outcome {
     written(log.len() + MORE, |out| narrow(log, values, out))
 }
 
+/// The bytes that are lent for any page.
+pub const PAGE_ROOM: usize = PAGE_MAX + MORE;
+
 /// The page that the library makes, or its refusal.
 pub fn page_made(log: &[u8]) -> Outcome {
-    written(PAGE_MAX + MORE, |out| page(log, out))
+    written(PAGE_ROOM, |out| page(log, out))
 }

@@ -1,6 +1,6 @@
-//! The buffer of a page at every length from 0 to past the needed one, for longer pages at some of
-//! them: below it the call is refused 24 and writes nothing, and from there on it writes the same
-//! bytes and leaves those after them alone.
+//! The buffer of a page at every length from 0 to past the needed one, or for some longer pages at
+//! those around the ends of their lines: below the needed length the call is refused 24 and writes
+//! nothing, and from there on it writes the same bytes and leaves those after them alone.
 
 use yauponroof_tests::compare::page::Pages;
 use yauponroof_tests::library::guarded::written_twice;
@@ -64,7 +64,6 @@ fn every_length_for_the_runs_of_the_document() {
 #[test]
 fn lengths_around_the_end_of_each_line() {
     for records in [
-        pending_adds(63),
         pending_adds(62),
         pending_adds(10),
         simulate(8, Clients::Reused, 62, 205),

@@ -8,30 +8,28 @@ use yauponroof_tests::logs::enumerate::{
 use yauponroof_tests::model::record::Record;
 use yauponroof_tests::model::writer::log;
 
+fn compare(records: &[Record], pages: &mut Pages) {
+    pages.compare(&log(records));
+}
+
 #[test]
 fn every_log_of_up_to_six_records() {
     let mut pages = Pages::new();
-    every_log(6, &mut |records| {
-        pages.compare(&log(records));
-    });
+    every_log(6, &mut |records| compare(records, &mut pages));
     assert_eq!(pages.seen(0), 6684);
 }
 
 #[test]
 fn every_log_of_up_to_seven_records_with_a_client_for_each_operation() {
     let mut pages = Pages::new();
-    every_log_of_new_clients(7, &mut |records| {
-        pages.compare(&log(records));
-    });
+    every_log_of_new_clients(7, &mut |records| compare(records, &mut pages));
     assert_eq!(pages.seen(0), 17_852);
 }
 
 #[test]
 fn every_log_of_up_to_four_paired_operations() {
     let mut pages = Pages::new();
-    every_log_of_paired_operations(8, &mut |records| {
-        pages.compare(&log(records));
-    });
+    every_log_of_paired_operations(8, &mut |records| compare(records, &mut pages));
     assert_eq!(pages.seen(0), 7045);
 }
 
@@ -46,7 +44,7 @@ fn ticks_mean_nothing() {
                 ..*record
             };
             let changed: Vec<Record> = records.iter().map(with_tick).collect();
-            pages.compare(&log(&changed));
+            compare(&changed, &mut pages);
         }
     });
     assert_eq!(pages.seen(0), 3 * 832);

@@ -34,27 +34,26 @@ fn compare(records: &[Record], pages: &mut Pages, random: &mut Random) {
     pages.compare_room(&log(records), room(records, random));
 }
 
+/// Compares so many logs, each of them made by chance.
+fn compare_made(seed: u64, times: u32, make: fn(&mut Random) -> Vec<Record>) -> Pages {
+    let mut random = Random::new(seed);
+    let mut pages = Pages::new();
+    for _ in 0..times {
+        compare(&make(&mut random), &mut pages, &mut random);
+    }
+    pages
+}
+
 #[test]
 fn logs_by_chance() {
-    let mut random = Random::new(209);
-    let mut pages = Pages::new();
-    for _ in 0..20_000 {
-        let least = random.below(70);
-        let records = random_log(least, &mut random);
-        compare(&records, &mut pages, &mut random);
-    }
+    let pages = compare_made(209, 20_000, |random| random_log(random.below(70), random));
     pages.assert_at_least(&[(0, 10_000), (24, 3000), (30, 2000)]);
 }
 
 #[test]
 fn paired_operations_by_chance() {
-    let mut random = Random::new(210);
-    let mut pages = Pages::new();
-    for _ in 0..4000 {
-        let count = random.below(34);
-        let records = random_log_of_paired_operations(count, &mut random);
-        compare(&records, &mut pages, &mut random);
-    }
+    let paired = |random: &mut Random| random_log_of_paired_operations(random.below(34), random);
+    let pages = compare_made(210, 4000, paired);
     pages.assert_at_least(&[(0, 2000), (24, 600), (30, 100)]);
 }
 

@@ -5,7 +5,8 @@ use Rattle.projection.proofs.mark.mark.Tie as tie
 use Prim.Native.Nat.{_-_}
 use borrow.Author.Needs.{needs}
 use native.Mathlib.Omega.{arith}
-use Rattle.projection.proofs.Marking.{Marking, marking-starts, marking-small, marking-found, marking-room, marking-next, marking-ends}
+use Rattle.history.proofs.Walking.{walking-small, walking-found, walking-room}
+use Rattle.projection.proofs.Marking.{Marking, marking-starts, marking-next, marking-ends}
 
 abbrev Inv-loop : tie.InvT-loop
 Inv-loop log records kept marks₀ callers₀ recent₀ at₀ count₀ i₀ marks callers recent at count i = Marking log records kept callers recent marks at count i
@@ -23,19 +24,19 @@ enum-told : tie.Need-enum-told Inv-loop μ-loop
 enum-told c = search needs
 
 returns : tie.Need-returns Inv-loop μ-loop
-returns c = absurd (marking-found (c .before .before .before .before .loop .inv) (c .before .before .before .loop-test .taken) (c .before .before .decode-at .ensures) (c .enum-told .given .1))
+returns c = absurd (walking-found (c .before .before .before .before .loop .inv .walking) (c .before .before .before .loop-test .taken) (c .before .before .decode-at .ensures) (c .enum-told .given .1))
 
 enum-known-record : tie.Need-enum-known-record Inv-loop μ-loop
 enum-known-record c = search needs
 
 owner-of-requires : tie.Need-owner-of-requires Inv-loop μ-loop
-owner-of-requires c κs = marking-room (c .before .before .before .before .before .before .before .loop .inv) (c .before .before .before .before .before .before .loop-test .taken)
+owner-of-requires c κs = walking-room (c .before .before .before .before .before .before .before .loop .inv .walking) (c .before .before .before .before .before .before .loop-test .taken)
 
 element-copy-out-marks : tie.Need-element-copy-out-marks Inv-loop μ-loop
 element-copy-out-marks c = c .owner-of .ensures .small
 
 element-write-marks : tie.Need-element-write-marks Inv-loop μ-loop
-element-write-marks c = marking-small (c .before .before .before .before .before .before .before .before .before .loop .inv) (c .before .before .before .before .before .before .before .before .loop-test .taken)
+element-write-marks c = walking-small (c .before .before .before .before .before .before .before .before .before .loop .inv .walking) (c .before .before .before .before .before .before .before .before .loop-test .taken)
 
 add-i : tie.Need-add-i Inv-loop μ-loop
 add-i c = omega arith

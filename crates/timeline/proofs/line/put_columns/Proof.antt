@@ -1,4 +1,4 @@
--- `put_columns` meets its contract: dots, marks, dots, spaces, and the line feed.
+-- `put_columns` meets its contract: dots, hashes, dots, spaces, and the line feed.
 use Prim.Native.Nat.{_≤_}
 use native.Mathlib.Omega.{arith}
 use lib.ListN.{length}

@@ -7,7 +7,7 @@ use Rattle.timeline.proofs.Pages.{few, page-refused, page-lacks-room, p
 use Rattle.timeline.proofs.page.write_page.Statement.{statement}
 use Rattle.timeline.proofs.page.write_page.Tie as tie
 
--- the steps to a log that has a page, and to the marks of its operations
+-- the steps to a log that has a page, and to the spans of its operations
 abbrev start : tie.Else1 → tie.Start
 start c = c .before .before .before
 

@@ -1,9 +1,10 @@
--- `span` meets its contract. The loop's invariant is `Spanning`: the marks of the operations called before record i are noted, as far as the records
+-- `span` meets its contract. The loop's invariant is `Spanning`: the spans of the operations called before record i are noted, as far as the records
 -- before it tell. That there is no record at the offset would go against the log being readable.
 use Prim.Native.Nat.{_-_}
 use native.Mathlib.Omega.{arith}
 use borrow.Author.Needs.{needs}
-use Rattle.timeline.proofs.Spanning.{Spanning, spanning-starts, spanning-found, spanning-room, spanning-small, spanning-next, spanning-ends}
+use Rattle.history.proofs.Walking.{walking-found, walking-room}
+use Rattle.timeline.proofs.Spanning.{Spanning, spanning-starts, spanning-small, spanning-next, spanning-ends}
 use Rattle.timeline.proofs.spans.span.Statement.{statement}
 use Rattle.timeline.proofs.spans.span.Tie as tie
 
@@ -30,16 +31,16 @@ enum-told : tie.Need-enum-told Inv-loop μ-loop
 enum-told c = search needs
 
 returns : tie.Need-returns Inv-loop μ-loop
-returns c = absurd (spanning-found (c .before .before .before .before .loop .inv) (c .before .before .before .loop-test .taken) (c .before .before .decode-at .ensures) (c .enum-told .given .1))
+returns c = absurd (walking-found (c .before .before .before .before .loop .inv .walking) (c .before .before .before .loop-test .taken) (c .before .before .decode-at .ensures) (c .enum-told .given .1))
 
 enum-known-record : tie.Need-enum-known-record Inv-loop μ-loop
 enum-known-record c = search needs
 
 owner-of-requires : tie.Need-owner-of-requires Inv-loop μ-loop
-owner-of-requires c κs = let begun = turn (c .before .before .before) in spanning-room (begun .before .loop .inv) (begun .loop-test .taken)
+owner-of-requires c κs = let begun = turn (c .before .before .before) in walking-room (begun .before .loop .inv .walking) (begun .loop-test .taken)
 
-note-requires : tie.Need-note-requires Inv-loop μ-loop
-note-requires c κs =
+note-span-requires : tie.Need-note-span-requires Inv-loop μ-loop
+note-span-requires c κs =
     let owner = c .before .before in
     let decoded = found owner in
     let begun = turn decoded in
@@ -57,7 +58,7 @@ loop-again c =
     let decoded = found owner in
     let begun = turn decoded in
     spanning-next (begun .before .loop .inv) (begun .loop-test .taken) (decoded .before .before .decode-at .ensures) (decoded .«record» .given .1) (owner .owner-of .ensures)
-    (c .note .ensures)
+    (c .note-span .ensures)
 
 returns-2 : tie.Need-returns-2 Inv-loop μ-loop
 returns-2 c = spanning-ends (c .before .loop .inv) (c .loop-test .left)
@@ -74,7 +75,7 @@ span-spec =
     returns
     enum-known-record
     owner-of-requires
-    note-requires
+    note-span-requires
     add-i
     loop-less
     loop-again

@@ -1,9 +1,9 @@
--- `note` meets its contract: a return sets the end, a call sets start and end.
+-- `note_span` meets its contract: a return sets the end, a call sets start and end.
 use mathlib.Core.Path.{refl, sym, _∙_}
 use borrow.Author.Needs.{needs}
 use borrow.Author.Tests.{eq-eqb, ne-eqb}
-use Rattle.timeline.proofs.spans.note.Statement.{statement}
-use Rattle.timeline.proofs.spans.note.Tie as tie
+use Rattle.timeline.proofs.spans.note_span.Statement.{statement}
+use Rattle.timeline.proofs.spans.note_span.Tie as tie
 
 is-call-requires : tie.Need-is-call-requires
 is-call-requires c κs = search needs
@@ -35,8 +35,8 @@ element-write-ends-2 c = search needs
 returns-2 : tie.Need-returns-2
 returns-2 c = let begun = ne-eqb _ _ (λ z. c .if1 .left (c .before .is-call .ensures ∙ z)) in record { starts-are = rw begun refl; ends-are = rw begun refl }
 
-pub note-spec : {M : Type 1} → statement M
-note-spec =
+pub note-span-spec : {M : Type 1} → statement M
+note-span-spec =
     tie.close
     (tie.spec
     is-call-requires
