@@ -52,6 +52,7 @@ static void expect_refused(uint32_t refusal, uint32_t index, const char *what)
     expect_answer(excerpt(YR_LOG_MAX), refusal, index, what);
     count(is_filled(out, 0, sizeof out), "a refused call writes nothing");
     expect_answer(excerpt(0), refusal, index, what);
+    count(is_filled(out, 0, sizeof out), "a refused call writes nothing");
 }
 
 /* Begins `run` and `kept`. */

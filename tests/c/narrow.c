@@ -98,6 +98,7 @@ static void expect_refused(uint32_t refusal, uint32_t index, const char *what)
     expect_answer(narrow(values, 1, YR_LOG_MAX), refusal, index, what);
     count(is_filled(out, 0, sizeof out), "a refused call writes nothing");
     expect_answer(narrow(values, 1, 0), refusal, index, what);
+    count(is_filled(out, 0, sizeof out), "a refused call writes nothing");
 }
 
 static void check_large(void)
