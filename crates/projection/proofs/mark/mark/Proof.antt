@@ -14,6 +14,13 @@ Inv-loop log records kept marks₀ callers₀ recent₀ at₀ count₀ i₀ mark
 abbrev μ-loop : tie.MeasureT-loop
 μ-loop log records kept marks₀ callers₀ recent₀ at₀ count₀ i₀ marks callers recent at count i = records - i
 
+-- the steps of a turn: the record is decoded, and its operation is found
+abbrev found : tie.After-owner-of Inv-loop μ-loop → tie.After-record Inv-loop μ-loop
+found c = c .before .before .before .before
+
+abbrev turn : tie.After-record Inv-loop μ-loop → tie.In-loop Inv-loop μ-loop
+turn c = c .before .before .before
+
 loop-holds : tie.Need-loop-holds Inv-loop μ-loop
 loop-holds c = marking-starts (c .before .pre .0) (c .before .pre .1)
 
@@ -30,13 +37,13 @@ enum-known-record : tie.Need-enum-known-record Inv-loop μ-loop
 enum-known-record c = search needs
 
 owner-of-requires : tie.Need-owner-of-requires Inv-loop μ-loop
-owner-of-requires c κs = walking-room (c .before .before .before .before .before .before .before .loop .inv .walking) (c .before .before .before .before .before .before .loop-test .taken)
+owner-of-requires c κs = let begun = turn (c .before .before .before) in walking-room (begun .before .loop .inv .walking) (begun .loop-test .taken)
 
 element-copy-out-marks : tie.Need-element-copy-out-marks Inv-loop μ-loop
 element-copy-out-marks c = c .owner-of .ensures .small
 
 element-write-marks : tie.Need-element-write-marks Inv-loop μ-loop
-element-write-marks c = walking-small (c .before .before .before .before .before .before .before .before .before .loop .inv .walking) (c .before .before .before .before .before .before .before .before .loop-test .taken)
+element-write-marks c = let begun = turn (found (c .before)) in walking-small (begun .before .loop .inv .walking) (begun .loop-test .taken)
 
 add-i : tie.Need-add-i Inv-loop μ-loop
 add-i c = omega arith
@@ -45,7 +52,11 @@ loop-less : tie.Need-loop-less Inv-loop μ-loop
 loop-less c = omega arith
 
 loop-again : tie.Need-loop-again Inv-loop μ-loop
-loop-again c = marking-next (c .before .before .before .before .before .before .before .before .before .loop .inv) (c .before .before .before .before .before .before .before .before .loop-test .taken) (c .before .before .before .before .before .before .before .decode-at .ensures) (c .before .before .before .before .before .«record» .given .1) (c .before .owner-of .ensures)
+loop-again c =
+    let owner = c .before in
+    let decoded = found owner in
+    let begun = turn decoded in
+    marking-next (begun .before .loop .inv) (begun .loop-test .taken) (decoded .before .before .decode-at .ensures) (decoded .«record» .given .1) (owner .owner-of .ensures)
 
 returns-2 : tie.Need-returns-2 Inv-loop μ-loop
 returns-2 c = marking-ends (c .before .loop .inv) (c .loop-test .left)
