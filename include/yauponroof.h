@@ -261,7 +261,7 @@ enum yr_refusal {
  *     1   bytes are left behind the last record (index n)
  *     10  a remove has no return (index of the earliest call of such a remove)
  *
- * Nothing is written. Less than 16 KiB of stack is used (12.7 KB measured).
+ * Nothing is written. Less than 16 KiB of stack is used (12.6 KB measured).
  */
 yr_answer yr_check(const uint8_t *log, size_t log_len);
 
@@ -374,7 +374,7 @@ yr_answer yr_excerpt(const uint8_t *log, size_t log_len, uint8_t *out, size_t ou
  *
  * An accepted call writes its bytes and leaves those behind them as they were; a refused one leaves
  * all as they were. The log and the values are never written to. Less than 64 KiB of stack is used
- * (38.6 KB measured).
+ * (38.5 KB measured).
  */
 yr_answer yr_narrow(const uint8_t *log, size_t log_len, const uint32_t *values, size_t count,
                     uint8_t *out, size_t out_len);
@@ -399,7 +399,7 @@ yr_answer yr_narrow(const uint8_t *log, size_t log_len, const uint32_t *values, 
  *
  * An accepted call writes the bytes of the page and leaves those after them as they were; no zero
  * follows the page. A refused call leaves all as they were. The log is never written to. Less than
- * 64 KiB of stack is used (46.8 KB measured).
+ * 64 KiB of stack is used (46.7 KB measured).
  */
 yr_answer yr_page(const uint8_t *log, size_t log_len, uint8_t *page, size_t page_len);
 
@@ -451,7 +451,7 @@ yr_answer yr_begin(yr_session *s, uint8_t *buf, size_t len);
  * An accepted call writes the record right behind the used bytes, the new n to bytes 1 and 2 of the
  * buffer and the new number of used bytes to the session, and leaves all else as it was; a refused
  * one leaves the session and the buffer as they were. The record is never written to. Less than
- * 16 KiB of stack is used (12.8 KB measured).
+ * 16 KiB of stack is used (12.7 KB measured).
  */
 yr_answer yr_feed(yr_session *s, uint8_t *buf, size_t len, const uint8_t *record,
                   size_t record_len);

@@ -5,6 +5,7 @@ ghost use mathlib.Core.List.{[]};
 ghost use Prim.Native.Nat.{_≤_, _<_};
 ghost use lib.ListN.{length};
 ghost use Rattle.reader.specs.Log.{headerLength, maxRecords, scan};
+ghost use Rattle.reader.specs.Readable.{asks};
 ghost use Rattle.reader.specs.Feed.{extended};
 ghost use Rattle.reader.specs.Tables.{Room, Admitted, Stepped, Passed, FaultBehind, faultIn, surveyed};
 use crate::format::HEADER;
@@ -64,7 +65,20 @@ pub enum Survey {
     },
 }
 
-// Refusals 6 to 9: what is wrong with a record behind those that the tables hold, 0 for nothing.
+// The kind of the call that has to be pending when an event comes: for a return that of its operation, for a call none, 0.
+fn asks(event: Event) -> u32
+    ensures { λ kind. ⌜ kind ≡ asks event ⌝ }
+{
+    match event {
+        Event::CallAdd(_) => 0,
+        Event::CallRemove => 0,
+        Event::ReturnAdd => ADD_CALL,
+        Event::ReturnRemove(_) => REMOVE_CALL,
+    }
+}
+
+// Refusals 6 to 9: what is wrong with a record behind those that the tables hold, 0 for nothing. It goes by what the event asks for:
+// of a match on the four events the compiler would make a table.
 fn fault(r: Record, p: Progress, clients: &Table, codes: &Table, values: &Table) -> u32
     requires { ⌜ Room p (now clients) (now codes) (now values) ⌝ }
     ensures { λ f. ⌜ f ≡ faultIn r p (now (clients .entry)) (now (codes .entry)) (now (values .entry)) ⌝ }
@@ -76,34 +90,24 @@ fn fault(r: Record, p: Progress, clients: &Table, codes: &Table, values: &Table)
     let pending = p.pending;
     let added = p.added;
     let event = r.event;
+    let kind = asks(event);
+    if kind != 0 {
+        if pending_kind(clients, codes, pending, client) != kind {
+            return NO_SUCH_CALL;
+        }
+        return 0;
+    }
+    if contains(clients, pending, client) {
+        return CLIENT_BUSY;
+    }
     match event {
         Event::CallAdd(value) => {
-            if contains(clients, pending, client) {
-                return CLIENT_BUSY;
-            }
             if contains(values, added, value) {
                 return ADDED_TWICE;
             }
             0
         }
-        Event::CallRemove => {
-            if contains(clients, pending, client) {
-                return CLIENT_BUSY;
-            }
-            0
-        }
-        Event::ReturnAdd => {
-            if pending_kind(clients, codes, pending, client) != ADD_CALL {
-                return NO_SUCH_CALL;
-            }
-            0
-        }
-        Event::ReturnRemove(_) => {
-            if pending_kind(clients, codes, pending, client) != REMOVE_CALL {
-                return NO_SUCH_CALL;
-            }
-            0
-        }
+        _ => 0,
     }
 }
 
@@ -146,14 +150,7 @@ fn admit(
                 operations: p.operations + 1,
             }
         }
-        Event::ReturnAdd => Progress {
-            at: next,
-            tick: r.tick,
-            pending: end_call(clients, codes, pending, client),
-            added,
-            operations: p.operations,
-        },
-        Event::ReturnRemove(_) => Progress {
+        Event::ReturnAdd | Event::ReturnRemove(_) => Progress {
             at: next,
             tick: r.tick,
             pending: end_call(clients, codes, pending, client),

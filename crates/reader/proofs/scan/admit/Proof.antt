@@ -1,8 +1,7 @@
 -- `admit` meets its contract: after a record of each kind the tables hold what they should (`Keeping.antt`).
 use Rattle.reader.proofs.Keeping.{keeps-add, keeps-remove, keeps-return}
-use Rattle.reader.specs.Readable.{asks}
-use native.Mathlib.Omega.{arith}
-use mathlib.Core.Path.{refl, ap}
+use Rattle.reader.proofs.Arms.{returned-asks}
+use mathlib.Core.Path.{refl}
 use borrow.Author.Needs.{needs}
 use Rattle.reader.proofs.scan.admit.Statement.{statement}
 use Rattle.reader.proofs.scan.admit.Tie as tie
@@ -40,17 +39,8 @@ add-t24 c = search needs
 add-t25 : tie.Need-add-t25
 add-t25 c = search needs
 
-enum-told-2 : tie.Need-enum-told-2
-enum-told-2 c = search needs
-
 end-call-requires : tie.Need-end-call-requires
 end-call-requires c κs = search needs
-
-enum-told-3 : tie.Need-enum-told-3
-enum-told-3 c = search needs
-
-end-call-requires-2 : tie.Need-end-call-requires-2
-end-call-requires-2 c κs = search needs
 
 returns : tie.Need-returns
 returns c = record {
@@ -67,13 +57,7 @@ returns-2 c = record {
 returns-3 : tie.Need-returns-3
 returns-3 c = record {
   at = refl;
-  kept = λ past k len ok. keeps-return (c .before .before .before .before .before .before .args .r) k len ok _ (λ z. omega (arith, ap asks (c .before .before .before .enum-told2 .given .1))) (c .end-call .ensures);
-}
-
-returns-4 : tie.Need-returns-4
-returns-4 c = record {
-  at = refl;
-  kept = λ past k len ok. keeps-return (c .before .before .before .before .before .before .args .r) k len ok _ (λ z. omega (arith, ap asks (c .before .before .before .enum-told3 .given .1))) (c .end-call2 .ensures);
+  kept = λ past k len ok. keeps-return (c .before .before .before .before .before .args .r) k len ok _ (returned-asks (c .before .before .before .before .before .args .r .event) (c .before .before .before .match .keys3)) (c .end-call .ensures);
 }
 
 pub admit-spec : {M : Type 1} → statement M
@@ -91,11 +75,7 @@ admit-spec =
     begin-call-requires-2
     add-t24
     add-t25
-    enum-told-2
     end-call-requires
-    enum-told-3
-    end-call-requires-2
     returns
     returns-2
-    returns-3
-    returns-4)
+    returns-3)

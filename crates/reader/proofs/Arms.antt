@@ -1,0 +1,24 @@
+-- What an arm of a match tells that several events share: it knows the event by the tag of its variant, counted from 0.
+use native.Mathlib.Omega.{arith}
+use mathlib.Core.Path.{_≡_, refl}
+use mathlib.Core.List.{[], _∷_}
+use denote.Enum.Declared.{tagOf}
+use types.Run.{OneOf, miss}
+use Rattle.record.proofs.record.Event.{the-type}
+use Rattle.record.specs.declared.record.Event.{Event}
+use Rattle.record.specs.declared.record.Event.the-variants.{CallAdd, CallRemove, ReturnAdd, ReturnRemove}
+use Rattle.reader.specs.Readable.{asks}
+
+-- the arm of the returns
+pub returned-asks : (e : Event) → OneOf (2 ∷ 3 ∷ []) (tagOf the-type e) → asks e ≡ 0 → ⊥
+returned-asks (CallAdd v) tag z = miss (2 ∷ 3 ∷ []) 0 tt tag
+returned-asks CallRemove tag z = miss (2 ∷ 3 ∷ []) 1 tt tag
+returned-asks ReturnAdd tag z = omega (arith, z)
+returned-asks (ReturnRemove x) tag z = omega (arith, z)
+
+-- the arm of all but a call of add, where the event is a call
+pub remove-called : (e : Event) → OneOf (1 ∷ 2 ∷ 3 ∷ []) (tagOf the-type e) → asks e ≡ 0 → e ≡ CallRemove
+remove-called (CallAdd v) tag z = absurd (miss (1 ∷ 2 ∷ 3 ∷ []) 0 tt tag)
+remove-called CallRemove tag z = refl
+remove-called ReturnAdd tag z = absurd (omega (arith, z))
+remove-called (ReturnRemove x) tag z = absurd (omega (arith, z))
