@@ -1,4 +1,4 @@
--- What an arm of a match tells that several events share: it knows the event by the tag of its variant, counted from 0.
+-- What is known of an event in an arm that several events share: the tag of its variant, counted from 0, is one of theirs.
 use native.Mathlib.Omega.{arith}
 use mathlib.Core.Path.{_≡_, refl}
 use mathlib.Core.List.{[], _∷_}

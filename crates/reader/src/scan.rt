@@ -78,7 +78,7 @@ fn asks(event: Event) -> u32
 }
 
 // Refusals 6 to 9: what is wrong with a record behind those that the tables hold, 0 for nothing. It goes by what the event asks for:
-// of a match on the four events the compiler would make a table.
+// the compiler would make a jump table of a match on the four events.
 fn fault(r: Record, p: Progress, clients: &Table, codes: &Table, values: &Table) -> u32
     requires { ⌜ Room p (now clients) (now codes) (now values) ⌝ }
     ensures { λ f. ⌜ f ≡ faultIn r p (now (clients .entry)) (now (codes .entry)) (now (values .entry)) ⌝ }
