@@ -57,7 +57,8 @@ returns-2 c = record {
 returns-3 : tie.Need-returns-3
 returns-3 c = record {
   at = refl;
-  kept = λ past k len ok. keeps-return (c .before .before .before .before .before .args .r) k len ok _ (returned-asks (c .before .before .before .before .before .args .r .event) (c .before .before .before .match .keys3)) (c .end-call .ensures);
+  kept = λ past k len ok. let r = c .before .before .before .before .before .args .r in
+      keeps-return r k len ok _ (returned-asks (r .event) (c .before .before .before .match .keys3)) (c .end-call .ensures);
 }
 
 pub admit-spec : {M : Type 1} → statement M

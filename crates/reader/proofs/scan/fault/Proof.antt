@@ -34,15 +34,19 @@ module _ (client : ℕ) (clients codes values : List ℕ) where
   call-fault ReturnAdd z busy = absurd (omega (arith, z))
   call-fault (ReturnRemove x) z busy = absurd (omega (arith, z))
 
+-- where the function begins
+abbrev start : tie.After-asks → tie.Start
+start c = c .before .before .before .before .before
+
 -- the tick has not fallen,
-timely : (c : tie.After-asks) → ltb (c .before .before .before .before .before .args .r .tick) (c .before .before .before .before .before .args .p .tick) ≡ false
+timely : (c : tie.After-asks) → ltb (start c .args .r .tick) (start c .args .p .tick) ≡ false
 timely c = le-ltb _ _ (c .before .before .if1 .left)
 
 -- and an event that asks for a call is a return, one that asks for none a call
-is-return : (c : tie.Then2) → asks (c .before .before .before .before .before .before .args .r .event) ≡ 0 → ⊥
+is-return : (c : tie.Then2) → asks (start (c .before) .args .r .event) ≡ 0 → ⊥
 is-return c z = c .if2 .taken (c .before .asks .ensures ∙ z)
 
-is-call : (c : tie.Else2) → asks (c .before .before .before .before .before .before .args .r .event) ≡ 0
+is-call : (c : tie.Else2) → asks (start (c .before) .args .r .event) ≡ 0
 is-call c = sym (c .before .asks .ensures) ∙ c .if2 .left
 
 returns : tie.Need-returns
@@ -103,7 +107,7 @@ returns-6 c = let b = c .before .before .before .before .before in
 returns-7 : tie.Need-returns-7
 unfolding faultIn
 returns-7 c = let b = c .before in
-    rw (timely (b .before .before .before), remove-called (b .before .before .before .before .before .before .before .before .args .r .event) (c .match .keys2) (is-call (b .before .before)), sym (b .before .contains .ensures) ∙ b .if4 .left)
+    rw (timely (b .before .before .before), remove-called (start (b .before .before .before) .args .r .event) (c .match .keys2) (is-call (b .before .before)), sym (b .before .contains .ensures) ∙ b .if4 .left)
 
 pub fault-spec : {M : Type 1} → statement M
 fault-spec =
