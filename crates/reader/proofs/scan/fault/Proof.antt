@@ -38,6 +38,10 @@ module _ (client : ℕ) (clients codes values : List ℕ) where
 abbrev start : tie.After-asks → tie.Start
 start c = c .before .before .before .before .before
 
+-- where a call of add by an idle client is known as such
+abbrev add-called : tie.After-contains2 → tie.Else4
+add-called c = c .before .before .before .before
+
 -- the tick has not fallen,
 timely : (c : tie.After-asks) → ltb (start c .args .r .tick) (start c .args .p .tick) ≡ false
 timely c = le-ltb _ _ (c .before .before .if1 .left)
@@ -96,12 +100,12 @@ contains-requires-2 c κs = search needs
 
 returns-5 : tie.Need-returns-5
 unfolding faultIn
-returns-5 c = let b = c .before .before .before .before .before in
+returns-5 c = let b = add-called (c .before) in
     rw (timely (b .before .before .before), c .before .before .before .event .given .1, sym (b .before .contains .ensures) ∙ b .if4 .left, sym (c .before .contains2 .ensures) ∙ c .if5 .taken)
 
 returns-6 : tie.Need-returns-6
 unfolding faultIn
-returns-6 c = let b = c .before .before .before .before .before in
+returns-6 c = let b = add-called (c .before) in
     rw (timely (b .before .before .before), c .before .before .before .event .given .1, sym (b .before .contains .ensures) ∙ b .if4 .left, sym (c .before .contains2 .ensures) ∙ c .if5 .left)
 
 returns-7 : tie.Need-returns-7
