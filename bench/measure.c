@@ -52,6 +52,12 @@ static void pending_adds_listed(struct log *log, struct sheet *order)
     sheet_call_order(order, YR_MAX_RECORDS);
 }
 
+static void pending_shared_slot(struct log *log, struct sheet *order)
+{
+    log_pending_adds_of_slot(log, YR_MAX_RECORDS);
+    sheet_begin(order);
+}
+
 static void empty_removes(struct log *log, struct sheet *order)
 {
     log_relay(log, order, 85, 340, LAST_TRUE);
@@ -114,8 +120,12 @@ static const struct sample samples[] = {
     {"client-per-operation", 512, 0, 512, client_per_operation},
     {"calls-then-returns", 512, 0, 512, log_calls_then_returns},
     {"calls-apart", 512, 0, 512, log_calls_then_returns_apart},
+    {"calls-shared-slot", 512, 0, 512, log_calls_then_returns_of_slots},
+    {"values-reversed", 512, 0, 512, log_values_reversed},
+    {"shared-slot", 512, 0, 512, log_values_of_slot},
     {"pending-adds", 1024, 0, 0, pending_adds},
     {"pending-adds-listed", 1024, 0, 0, pending_adds_listed},
+    {"pending-shared-slot", 1024, 0, 0, pending_shared_slot},
     {"empty-removes", 510, 0, 510, empty_removes},
     {"empty-removes-false", 510, 6, 86, empty_removes_false},
     {"long-chain", 510, 0, 510, long_chain},

@@ -122,6 +122,8 @@ static void check_largest(void)
     count(memcmp(log.bytes, copy.bytes, log.length) == 0, "the log is unchanged");
     log_pending_adds(&log, YR_MAX_RECORDS + 1);
     expect_log(&log, YR_REFUSAL_RECORDS, 0, "1,025 adds");
+    log_pending_adds_of_slot(&log, YR_MAX_RECORDS);
+    expect_log(&log, 0, 1024, "1,024 adds of values that share a slot");
     log_calls_then_returns(&log, &order);
     expect_log(&log, 0, 512, "512 calls, then their returns");
     log_simulate(&log, &order, CLIENTS_REUSED);

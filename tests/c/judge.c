@@ -158,8 +158,16 @@ static void check_largest(void)
     expect_order(512, "a run of 8 clients, at the end of which the queue is empty");
     log_calls_then_returns(&run, &order);
     expect_order(512, "512 calls, then their returns");
+    log_calls_then_returns_of_slots(&run, &order);
+    expect_order(512, "512 calls, then their returns, by clients that share slots");
+    log_values_reversed(&run, &order);
+    expect_order(512, "256 values removed in reverse order");
+    log_values_of_slot(&run, &order);
+    expect_order(512, "256 adds, then 256 removes, of values that share a slot");
     log_pending_adds(&run, YR_MAX_RECORDS);
     expect_order(0, "1,024 adds without return");
+    log_pending_adds_of_slot(&run, YR_MAX_RECORDS);
+    expect_order(0, "1,024 adds without return, of values that share a slot");
     log_relay(&run, &order, 170, 170, LAST_TRUE);
     expect_order(510, "170 empty removes over 170 values");
     log_relay(&run, &order, 170, 170, LAST_FALSE);

@@ -91,6 +91,33 @@ static inline void log_pending_adds(struct log *log, unsigned n)
         log_record(log, CALL_ADD, i, i);
 }
 
+/* The slot of a key, a value or a client, by the formula of the library's map
+   (crates/map/src/map.rt). Keys that share one of the 512 slots are searched one after the other. */
+static inline unsigned slot_of(uint32_t key)
+{
+    return (unsigned)((uint64_t)key * 2654435761u / 8388608 % 512);
+}
+
+/* The least value above this one that is in its slot as well. */
+static inline uint32_t next_of_slot(uint32_t value)
+{
+    uint32_t next = value + 1;
+    while (slot_of(next) != slot_of(value))
+        next++;
+    return next;
+}
+
+/* n adds that never return, a client each, of values that share a slot. */
+static inline void log_pending_adds_of_slot(struct log *log, unsigned n)
+{
+    uint32_t value = 0;
+    log_begin(log);
+    for (unsigned i = 0; i < n; i++) {
+        log_record(log, CALL_ADD, i, value);
+        value = next_of_slot(value);
+    }
+}
+
 /* Writes logs that are not readable, one after the other, and calls `expect` for each with its
    refusal, the index and what is wrong with it. */
 static inline void log_each_refused(struct log *log,
@@ -106,17 +133,16 @@ static inline void log_each_refused(struct log *log,
     expect(YR_REFUSAL_RECORDS, 0, "1,025 adds");
 }
 
-/* 512 calls, alternately add and remove, then their 512 returns, a client each: call i is by client
-   `step * (i / group) + i % group`. In the order all adds come before the removes of their values. */
-static inline void log_calls_then_returns_by(struct log *log, struct sheet *order, unsigned group,
-                                             unsigned step)
+/* 512 calls, alternately add and remove, then their 512 returns, by these clients. In the order all
+   adds come before the removes of their values. */
+static inline void log_calls_then_returns_by(struct log *log, struct sheet *order,
+                                             const unsigned clients[512])
 {
     log_begin(log);
     for (unsigned i = 0; i < 512; i++)
-        log_record(log, i % 2 == 0 ? CALL_ADD : CALL_REMOVE, step * (i / group) + i % group, i);
+        log_record(log, i % 2 == 0 ? CALL_ADD : CALL_REMOVE, clients[i], i);
     for (unsigned i = 0; i < 512; i++)
-        log_record(log, i % 2 == 0 ? RETURN_ADD : RETURN_VALUE, step * (i / group) + i % group,
-                   i - 1);
+        log_record(log, i % 2 == 0 ? RETURN_ADD : RETURN_VALUE, clients[i], i - 1);
     sheet_begin(order);
     for (unsigned i = 0; i < 512; i++)
         sheet_list(order, i < 256 ? 2 * i : 2 * (i - 256) + 1);
@@ -125,13 +151,67 @@ static inline void log_calls_then_returns_by(struct log *log, struct sheet *orde
 /* The clients are 0 to 511. */
 static inline void log_calls_then_returns(struct log *log, struct sheet *order)
 {
-    log_calls_then_returns_by(log, order, 512, 0);
+    unsigned clients[512];
+    for (unsigned i = 0; i < 512; i++)
+        clients[i] = i;
+    log_calls_then_returns_by(log, order, clients);
 }
 
 /* The clients have 8 remainders by 1,024, 64 clients each. */
 static inline void log_calls_then_returns_apart(struct log *log, struct sheet *order)
 {
-    log_calls_then_returns_by(log, order, 8, 1024);
+    unsigned clients[512];
+    for (unsigned i = 0; i < 512; i++)
+        clients[i] = 1024 * (i / 8) + i % 8;
+    log_calls_then_returns_by(log, order, clients);
+}
+
+/* The clients share 4 slots of the map: all of the slots 0 to 2, and the first of slot 3. */
+static inline void log_calls_then_returns_of_slots(struct log *log, struct sheet *order)
+{
+    unsigned clients[512];
+    unsigned n = 0;
+    for (unsigned slot = 0; n < 512; slot++)
+        for (uint32_t client = 0; client <= UINT16_MAX && n < 512; client++)
+            if (slot_of(client) == slot)
+                clients[n++] = client;
+    log_calls_then_returns_by(log, order, clients);
+}
+
+/* 256 calls of remove, 256 of add, then the returns of the adds and those of the removes, a client
+   each, so that all operations overlap. The first remove takes the last value, the second the last
+   but one, and so on. A search from the lowest operation on then passes all removes before it comes
+   to an add, and among the removes that wait the one of the front value is the last. */
+static inline void log_values_reversed(struct log *log, struct sheet *order)
+{
+    log_begin(log);
+    for (unsigned i = 0; i < 256; i++)
+        log_record(log, CALL_REMOVE, i, 0);
+    for (unsigned i = 0; i < 256; i++)
+        log_record(log, CALL_ADD, 256 + i, i);
+    for (unsigned i = 0; i < 256; i++)
+        log_record(log, RETURN_ADD, 256 + i, 0);
+    for (unsigned i = 0; i < 256; i++)
+        log_record(log, RETURN_VALUE, i, 255 - i);
+    sheet_begin(order);
+    for (unsigned i = 0; i < 512; i++)
+        sheet_list(order, i < 256 ? 256 + i : 511 - i);
+}
+
+/* 256 adds, then 256 removes, one after the other by one client, of values that share a slot of the
+   map. */
+static inline void log_values_of_slot(struct log *log, struct sheet *order)
+{
+    uint32_t value = 0;
+    log_begin(log);
+    for (unsigned i = 0; i < 512; i++) {
+        if (i == 256)
+            value = 0;
+        log_record(log, i < 256 ? CALL_ADD : CALL_REMOVE, 0, value);
+        log_record(log, i < 256 ? RETURN_ADD : RETURN_VALUE, 0, value);
+        value = next_of_slot(value);
+    }
+    sheet_call_order(order, 512);
 }
 
 /* Who makes the calls of a simulated run: clients numbered from 0, the same 1,024 apart, or one for

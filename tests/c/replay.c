@@ -133,6 +133,10 @@ static void check_largest(void)
     check_large("512 calls, then their returns");
     log_calls_then_returns_apart(&run, &order);
     check_large("512 calls, then their returns, by clients 1,024 apart");
+    log_calls_then_returns_of_slots(&run, &order);
+    check_large("512 calls, then their returns, by clients that share slots");
+    log_values_of_slot(&run, &order);
+    check_large("256 adds, then 256 removes, of values that share a slot");
 
     log_pending_adds(&run, YR_MAX_RECORDS);
     sheet_begin(&order);

@@ -367,6 +367,8 @@ static void check_whole_logs(void)
     expect_as_log("a run of 64 clients");
     log_calls_then_returns(&run, &order);
     expect_as_log("512 calls, then their returns");
+    log_values_of_slot(&run, &order);
+    expect_as_log("256 adds, then 256 removes, of values that share a slot");
     log_relay(&run, &order, 170, 170, LAST_TRUE);
     expect_as_log("170 empty removes over 170 values");
     log_relay(&run, &order, 170, 170, LAST_FALSE);

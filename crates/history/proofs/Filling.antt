@@ -4,12 +4,13 @@ use native.Mathlib.Omega.{arith}
 use native.Mathlib.Decide.{decLt, ℕ-discrete}
 use mathlib.Core.Path.{_≡_, refl, sym, ap, _∙_}
 use mathlib.Core.List.{List}
-use lib.ListN.{length, take, List·getD-eq-default, replicate}
+use lib.ListN.{length, take, List·getD-eq-default}
 use lib.Seq.{take-length}
 use borrow.Author.Tests.{lt-ltb, le-ltb}
 use Rattle.record.specs.declared.record.Event.the-variants.{CallRemove}
 use Rattle.record.specs.declared.record.Record.{Record}
-use Rattle.reader.specs.Log.{maxRecords, isCall, operations}
+use Rattle.map.proofs.Laws.{newKeys, newChains}
+use Rattle.reader.specs.Log.{isCall, operations}
 use Rattle.reader.specs.Readable.{recordOf, asks, leaves, Regular}
 use Rattle.history.specs.Operations.{callIndex, returnIndex, kindBy, valueBy, positionOf, returnPosition, operationAt}
 use Rattle.history.specs.Owners.{Traced}
@@ -20,7 +21,7 @@ use Rattle.history.proofs.Owning.{operation-called, owner-called, opera
 use Rattle.history.proofs.Tracing.{traced-none}
 
 -- before the first record
-pub filled-none : (records : List Record) (table : List ℕ) → length table ≡ tableLength → Filled records table 0 0 (replicate maxRecords 0) (replicate maxRecords 0) table
+pub filled-none : (records : List Record) (table : List ℕ) → length table ≡ tableLength → Filled records table 0 0 newKeys newChains table
 filled-none records table t = record {
   traced = traced-none records;
   table-sized = t;

@@ -8,7 +8,6 @@ pub mod Events
 pub mod Filling
 pub mod Forms
 pub mod Laws
-pub mod Linking
 pub mod Noting
 pub mod Numbering
 pub mod Owning
@@ -18,7 +17,6 @@ pub mod Reaching
 pub mod Registers
 pub mod Rows
 pub mod Running
-pub mod Searching
 pub mod Sheets
 pub mod Tabulating
 pub mod Tracing

@@ -3,12 +3,13 @@ use Prim.Native.Nat.{ℕ, _+_, _≤_, _<_}
 use native.Mathlib.Omega.{arith}
 use mathlib.Core.Path.{_≡_, refl, sym, _∙_}
 use mathlib.Core.List.{List}
-use lib.ListN.{length, replicate}
+use lib.ListN.{length}
 use Rattle.record.specs.Record.{decodeAt}
 use Rattle.record.specs.declared.record.Record.{Record}
 use Rattle.record.specs.declared.record.Decoded.{Decoded}
 use Rattle.record.specs.declared.record.Decoded.the-variants.{Found, Malformed}
-use Rattle.reader.specs.Log.{headerLength, maxRecords, readLog, checked}
+use Rattle.map.proofs.Laws.{newKeys, newChains}
+use Rattle.reader.specs.Log.{headerLength, readLog, checked}
 use Rattle.reader.specs.declared.log.Checked.{Checked}
 use Rattle.reader.specs.declared.log.Checked.the-variants.{Readable, Refused}
 use Rattle.reader.proofs.Laws.{checked-readable, checked-refused}
@@ -26,7 +27,7 @@ pub record Reached (log : List ℕ) (end : ℕ) (old callers recent table : List
   pub filled : Filled (whole .records) old i count callers recent table
 
 pub reached-start : {log : List ℕ} {end : ℕ} → Whole log end → (table : List ℕ) → length table ≡ tableLength
-    → Reached log end table (replicate maxRecords 0) (replicate maxRecords 0) table headerLength 0 0
+    → Reached log end table newKeys newChains table headerLength 0 0
 reached-start whole table t = record { whole = whole; along = along-start whole; filled = filled-none (whole .records) table t }
 
 module _ {log : List ℕ} {end : ℕ} {old callers recent table : List ℕ} {at count i : ℕ} (reached : Reached log end old callers recent table at count i)

@@ -1,33 +1,30 @@
 -- The callers of the operations are noted record after record: a call's new operation, and a return's is the latest one of its client.
 use Prim.Native.Nat.{ℕ, _+_, _≤_, _<_}
 use native.Mathlib.Omega.{arith}
-use native.Mathlib.Decide.{decLt, ℕ-discrete}
+use native.Mathlib.Decide.{decLt}
 use mathlib.Core.Path.{_≡_, refl, sym, ap, _∙_}
 use mathlib.Core.List.{List}
-use lib.ListN.{length, length-set, take, replicate}
-use lib.Seq.{length-take-le}
+use lib.ListN.{length, getD, set, take}
+use lib.Seq.{length-take-le, getD-set-same, getD-set-other}
 use Rattle.record.specs.declared.record.Record.{Record}
+use Rattle.map.specs.Map.{Linked, Latest}
+use Rattle.map.proofs.Laws.{newKeys, newChains, new-linked}
 use Rattle.reader.specs.Log.{maxRecords, isCall, operations}
 use Rattle.reader.specs.Readable.{recordOf, Next, Regular}
 use Rattle.reader.proofs.Laws.{few-operations}
 use Rattle.history.specs.Operations.{callIndex, operationAt}
-use Rattle.history.specs.Callers.{clientAt, Latest, Begun, Found}
 use Rattle.history.specs.Owners.{Traced, CallersRoom, Owned}
-use Rattle.history.proofs.Basics.{zeros}
+use Rattle.history.proofs.Basics.{up-to}
 use Rattle.history.proofs.Events.{isCall-small}
-use Rattle.history.proofs.Linking.{linked-none, client-new, client-old, linked-more, link-small-more}
 use Rattle.history.proofs.Numbering.{index-of-rank, rank-step, ranks-rise, ranks-below, called-before, calls-rise}
 use Rattle.history.proofs.Owning.{operation-called, operation-answered, call-before}
 
 -- nothing is called before the first record
-pub traced-none : (records : List Record) → Traced records 0 0 (replicate maxRecords 0) (replicate maxRecords 0)
+pub traced-none : (records : List Record) → Traced records 0 0 newKeys newChains
 unfolding operations
 traced-none records = record {
   counted = refl;
-  callers-sized = refl;
-  recent-sized = refl;
-  linked = linked-none (replicate maxRecords 0) (replicate maxRecords 0) (zeros maxRecords);
-  link-small = λ o. omega (arith, zeros maxRecords o);
+  linked = new-linked;
   clients-are = λ o l. absurd (omega arith);
 }
 
@@ -36,35 +33,23 @@ pub traced-room : {records : List Record} {n count : ℕ} {callers recent : List
     → Traced records n count callers recent → CallersRoom count callers recent
 traced-room {records} {n} {count} h few traced =
     let called : count ≤ n = omega (arith, traced .counted, few-operations (take n records), length-take-le n records (omega arith)) in
-    record {
-      count-small = omega arith;
-      leads-down = record { slots = λ slot. omega (arith, traced .linked .tops slot .within); links = traced .link-small };
-    }
+    record { count-small = omega arith; linked = traced .linked }
 
 -- one record more, which is a call
 module _ {records : List Record} {n count : ℕ} {callers recent callers' recent' : List ℕ} (h : n < length records) (c : isCall (recordOf records n .event) ≡ 1)
-    (traced : Traced records n count callers recent) (begun : Begun callers recent count (recordOf records n .client) callers' recent') (few : count < maxRecords) where
-  in-callers : count < length callers
-  in-callers = omega (arith, traced .callers-sized)
+    (traced : Traced records n count callers recent) (few : count < maxRecords) (noted : callers' ≡ set callers count (recordOf records n .client)) (linked : Linked callers' recent' (count + 1)) where
+  -- the new operation's client is that of the record, and the others are as they were
+  new : getD callers' count 0 ≡ recordOf records (callIndex records count) .client
+  new = rw (noted, traced .counted, index-of-rank records n h c, ← traced .counted) (getD-set-same callers count (recordOf records n .client) 0 (omega (arith, traced .linked .keys-sized)))
 
-  in-recent : maxRecords ≤ length recent
-  in-recent = omega (arith, traced .recent-sized)
-
-  client : (o : ℕ) → o < count + 1 → Dec (o ≡ count) → clientAt callers' o ≡ recordOf records (callIndex records o) .client
-  client o l (yes e) =
-      rw (e, traced .counted, index-of-rank records n h c, ← traced .counted, begun .callers-are)
-      (client-new callers recent count (recordOf records n .client) (traced .linked) (begun .small) in-callers in-recent)
-  client o l (no d) =
-      rw (begun .callers-are) (client-old callers recent count (recordOf records n .client) (traced .linked) (begun .small) in-callers in-recent o d ∙ traced .clients-are o (omega arith))
+  old : (o : ℕ) → o < count → getD callers' o 0 ≡ recordOf records (callIndex records o) .client
+  old o l = rw noted (getD-set-other callers count o (recordOf records n .client) 0 (λ e. omega arith) ∙ traced .clients-are o l)
 
   traced-call : Traced records (n + 1) (count + 1) callers' recent'
   traced-call = record {
     counted = omega (arith, rank-step records n h, traced .counted);
-    callers-sized = rw (begun .callers-are) (length-set callers count _ ∙ traced .callers-sized);
-    recent-sized = rw (begun .recent-are) (length-set recent _ _ ∙ traced .recent-sized);
-    linked = rw (begun .callers-are, begun .recent-are) (linked-more callers recent count (recordOf records n .client) (traced .linked) (begun .small) in-callers in-recent);
-    link-small = rw (begun .callers-are) (link-small-more callers recent count (recordOf records n .client) (traced .linked) (begun .small) in-callers in-recent (traced .link-small));
-    clients-are = λ o l. client o l (ℕ-discrete o count);
+    linked = linked;
+    clients-are = up-to old new;
   }
 
 -- one record more, which is a return
@@ -74,7 +59,7 @@ module _ {records : List Record} (regular : Regular records) {n : ℕ} (h : n < 
   return-is-latest {o} latest = go (call-before regular n h c)
     where
       go : (i : ℕ) × Next records i n × (isCall (recordOf records i .event) ≡ 1) → o ≡ operationAt records n
-      go (i, next, call) = by (latest .found rank ranked client) (decLt o rank) (decLt rank o)
+      go (i, next, call) = by (latest .last rank ranked client) (decLt rank o)
         where
           rank : ℕ
           rank = operations (take i records)
@@ -85,44 +70,40 @@ module _ {records : List Record} (regular : Regular records) {n : ℕ} (h : n < 
           ranked : rank < count
           ranked = omega (arith, call, traced .counted, rank-step records i (omega (arith, next .later)), ranks-rise records (i + 1) n (omega (arith, next .later)))
 
-          client : clientAt callers rank ≡ recordOf records n .client
+          client : getD callers rank 0 ≡ recordOf records n .client
           client = traced .clients-are rank ranked ∙ ap (λ k. recordOf records k .client) own ∙ sym (next .same)
 
-          by : (o < count) × (clientAt callers o ≡ recordOf records n .client) → Dec (o < rank) → Dec (rank < o) → o ≡ operationAt records n
-          by found (yes l) d = absurd (latest .later rank l ranked client)
-          by found (no l) (yes m) = absurd
+          by : (o < count) × (rank ≤ o) → Dec (rank < o) → o ≡ operationAt records n
+          by found (yes m) = absurd
               (next .between (callIndex records o)
               (omega (arith, own, calls-rise records rank o m (omega (arith, found .0, traced .counted, ranks-below records n))))
               (called-before records n o (omega (arith, found .0, traced .counted)))
-              (sym (traced .clients-are o (found .0)) ∙ found .1 ∙ next .same))
-          by found (no l) (no m) = omega (arith, operation-answered regular i n next call)
+              (sym (traced .clients-are o (found .0)) ∙ latest .holds (found .0) ∙ next .same))
+          by found (no m) = omega (arith, operation-answered regular i n next call)
 
   traced-return : Traced records (n + 1) count callers recent
   traced-return = record {
     counted = omega (arith, rank-step records n h, traced .counted);
-    callers-sized = traced .callers-sized;
-    recent-sized = traced .recent-sized;
     linked = traced .linked;
-    link-small = traced .link-small;
     clients-are = traced .clients-are;
   }
 
 -- the operation of a call is found, and that of a return
 pub owned-call : (r : Record) {count : ℕ} {callers recent callers' recent' : List ℕ} → (isCall (r .event) ≡ 0 → ⊥) → count < maxRecords
-    → Begun callers recent count (r .client) callers' recent' → Owned r count callers recent (record { operation = count; count = count + 1 }) callers' recent'
-owned-call r c few begun = record {
+    → callers' ≡ set callers count (r .client) → Linked callers' recent' (count + 1) → Owned r count callers recent (record { operation = count; count = count + 1 }) callers' recent'
+owned-call r c few noted linked = record {
   small = few;
   is = λ records n regular h here traced. traced .counted ∙ sym (operation-called records n h (call here));
-  traced = λ records n regular h here traced. traced-call h (call here) traced (rw here begun) few;
+  traced = λ records n regular h here traced. traced-call h (call here) traced few (rw here noted) linked;
 }
   where
     call : {q : Record} → q ≡ r → isCall (q .event) ≡ 1
     call here = rw here (omega (arith, isCall-small (r .event)))
 
-pub owned-return : (r : Record) {count o : ℕ} {callers recent : List ℕ} → isCall (r .event) ≡ 0 → Found callers recent (r .client) o
+pub owned-return : (r : Record) {count o : ℕ} {callers recent : List ℕ} → isCall (r .event) ≡ 0 → count < maxRecords → Latest callers count (r .client) o
     → Owned r count callers recent (record { operation = o; count = count }) callers recent
-owned-return r {count} c found = record {
-  small = found .small;
-  is = λ records n regular h here traced. return-is-latest regular h (rw here c) traced (rw here (found .latest count (traced .linked)));
+owned-return r c few latest = record {
+  small = omega (arith, latest .within);
+  is = λ records n regular h here traced. return-is-latest regular h (rw here c) traced (rw here latest);
   traced = λ records n regular h here traced. traced-return regular h (rw here c) traced;
 }

@@ -3,11 +3,12 @@ use Prim.Native.Nat.{ℕ, _+_, _<_}
 use native.Mathlib.Omega.{arith}
 use mathlib.Core.Path.{_≡_}
 use mathlib.Core.List.{List}
-use lib.ListN.{length, replicate}
+use lib.ListN.{length}
 use Rattle.record.specs.Record.{decodeAt}
 use Rattle.record.specs.declared.record.Record.{Record}
 use Rattle.record.specs.declared.record.Decoded.{Decoded}
 use Rattle.record.specs.declared.record.Decoded.the-variants.{Found, Malformed}
+use Rattle.map.proofs.Laws.{newKeys, newChains}
 use Rattle.reader.specs.Log.{headerLength, maxRecords}
 use Rattle.reader.specs.Readable.{recordOf, Regular}
 use Rattle.history.specs.Operations.{operationAt}
@@ -25,7 +26,7 @@ pub record Walking (log : List ℕ) (end : ℕ) (callers recent : List ℕ) (at 
   -- the callers in the records before it are noted
   pub traced : Traced (whole .records) i count callers recent
 
-abbrev pub walking-starts : {log : List ℕ} {end : ℕ} → Whole log end → Walking log end (replicate maxRecords 0) (replicate maxRecords 0) headerLength 0 0
+abbrev pub walking-starts : {log : List ℕ} {end : ℕ} → Whole log end → Walking log end newKeys newChains headerLength 0 0
 walking-starts whole = record { whole = whole; along = along-start whole; traced = traced-none (whole .records) }
 
 module _ {log callers recent : List ℕ} {end at count i : ℕ} (walking : Walking log end callers recent at count i) where

@@ -7,7 +7,6 @@ pub mod Operations
 pub mod Sheet
 pub mod Each
 pub mod Runs
-pub mod Callers
 pub mod Owners
 pub mod Table
 pub mod Answers

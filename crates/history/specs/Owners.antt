@@ -1,32 +1,29 @@
 -- What the code keeps while it goes from record to record and finds the operation of each. What that operation is can be understood without
 -- this file.
-use Prim.Native.Nat.{ℕ, _+_, _≤_, _<_}
+use Prim.Native.Nat.{ℕ, _+_, _<_}
 use mathlib.Core.Path.{_≡_}
 use mathlib.Core.List.{List}
-use lib.ListN.{length, take}
+use lib.ListN.{length, getD, take}
 use Rattle.record.specs.declared.record.Record.{Record}
+use Rattle.map.specs.Map.{Linked}
 use Rattle.reader.specs.Log.{maxRecords, operations}
 use Rattle.reader.specs.Readable.{recordOf, Regular}
-use Rattle.history.specs.Callers.{clientAt, linkAt, Linked, LeadsDown}
 use Rattle.history.specs.Operations.{callIndex, operationAt}
 use Rattle.history.specs.declared.owners.Owner.{Owner}
 
--- The callers of the operations that the first n records call are noted.
+-- The callers of the operations that the first n records call are noted: the keys of a map are the clients, so that a client's latest entry is its
+-- latest operation.
 pub record Traced (records : List Record) (n count : ℕ) (callers recent : List ℕ) : Type 0 where
   -- there are so many
   pub counted : count ≡ operations (take n records)
-  -- the tables have their length, and lead from each slot to its operations
-  pub callers-sized : length callers ≡ maxRecords
-  pub recent-sized : length recent ≡ maxRecords
   pub linked : Linked callers recent count
-  pub link-small : (o : ℕ) → linkAt callers o ≤ o
   -- the client of each operation is that of its call
-  pub clients-are : (o : ℕ) → o < count → clientAt callers o ≡ recordOf records (callIndex records o) .client
+  pub clients-are : (o : ℕ) → o < count → getD callers o 0 ≡ recordOf records (callIndex records o) .client
 
 -- There is room for one operation more.
 pub record CallersRoom (count : ℕ) (callers recent : List ℕ) : Type 0 where
   pub count-small : count < maxRecords
-  pub leads-down : LeadsDown callers recent
+  pub linked : Linked callers recent count
 
 -- The operation of the record r is found, and its caller is noted if the record calls it.
 pub record Owned (r : Record) (count : ℕ) (callers recent : List ℕ) (owner : Owner) (callers' recent' : List ℕ) : Type 0 where

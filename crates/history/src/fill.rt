@@ -7,8 +7,6 @@ ghost use Rattle.record.specs.declared.record.Event.the-variants.{ReturnRemove}
 ghost use Rattle.reader.specs.Log.{maxRecords, readLog};
 ghost use Rattle.history.specs.Operations.{removeKind};
 ghost use Rattle.history.specs.Table.{tableLength, Tabulated, Entered, Room, Noted, Whole};
-use crate::callers::Callers;
-use crate::callers::Recent;
 use crate::operations::ADD;
 use crate::operations::CALL;
 use crate::operations::EMPTY_REMOVE;
@@ -22,8 +20,11 @@ use crate::operations::VALUE;
 use crate::operations::call_of;
 use crate::operations::value_of;
 use crate::owners::owner_of;
+use map::map::Chains;
+use map::map::Keys;
+use map::map::LINKS;
+use map::map::SIZE;
 use reader::format::HEADER;
-use reader::format::MAX_RECORDS;
 use record::record::Decoded;
 use record::record::Event;
 use record::record::Record;
@@ -70,8 +71,8 @@ fn note(
     index: usize,
     count: usize,
     end: usize,
-    callers: &mut Callers,
-    recent: &mut Recent,
+    callers: &mut Keys,
+    recent: &mut Chains,
     table: &mut Operations,
 ) -> usize
     requires { ⌜ Room index count end (now callers) (now recent) (now table) ⌝ }
@@ -108,8 +109,8 @@ pub(crate) fn fill(log: &[u8], end: usize, table: &mut Operations)
     requires { ⌜ Whole (now log) end × (length (now table) ≡ tableLength) ⌝ }
     ensures { λ _. ⌜ Tabulated (readLog (now (log .entry))) (now (table .entry)) (now (table .exit)) ⌝ }
 {
-    let mut callers = [0u32; MAX_RECORDS];
-    let mut recent = [0u32; MAX_RECORDS];
+    let mut callers = [0u32; SIZE];
+    let mut recent = [0u16; LINKS];
     let mut at = HEADER;
     let mut count = 0;
     let mut i = 0;

@@ -1,5 +1,4 @@
 // The operations of a readable log: what each is, and when it was called and returned; and the sheet, which lists operations in bytes.
-pub mod callers;
 mod fill;
 pub mod operations;
 pub mod owners;

@@ -3,10 +3,10 @@
 ghost use mathlib.Core.Path.{_≡_};
 ghost use Rattle.reader.specs.Log.{isCall};
 ghost use Rattle.history.specs.Owners.{CallersRoom, Owned};
-use crate::callers::Callers;
-use crate::callers::Recent;
-use crate::callers::begin;
-use crate::callers::latest_of;
+use map::map::Chains;
+use map::map::Keys;
+use map::map::find;
+use map::map::push;
 use record::record::Event;
 use record::record::Record;
 
@@ -29,7 +29,7 @@ pub fn is_call(event: Event) -> usize
 }
 
 // Finds the operation of a record: a return's is the latest one of its client, and a call's is a new one, whose caller is then noted.
-pub fn owner_of(r: Record, count: usize, callers: &mut Callers, recent: &mut Recent) -> Owner
+pub fn owner_of(r: Record, count: usize, callers: &mut Keys, recent: &mut Chains) -> Owner
     requires { ⌜ CallersRoom count (now callers) (now recent) ⌝ }
     ensures { λ x. ⌜ Owned r count (now (callers .entry)) (now (recent .entry)) x (now (callers .exit)) (now (recent .exit)) ⌝ }
 {
@@ -37,11 +37,11 @@ pub fn owner_of(r: Record, count: usize, callers: &mut Callers, recent: &mut Rec
     let event = r.event;
     if is_call(event) == 0 {
         return Owner {
-            operation: latest_of(callers, recent, client),
+            operation: find(callers, recent, count, client),
             count,
         };
     }
-    begin(callers, recent, count, client);
+    push(callers, recent, count, client);
     Owner {
         operation: count,
         count: count + 1,

@@ -1,6 +1,9 @@
 pub mod Firsts
 pub mod Holding
+pub mod Mapping
 pub mod Matching
+pub mod Numbers
+pub mod Opening
 pub mod Partnering
 pub mod Reaching
 pub mod Storing

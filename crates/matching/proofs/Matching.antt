@@ -10,7 +10,6 @@ use Rattle.reader.specs.Log.{maxRecords}
 use Rattle.history.specs.History.{add, remove}
 use Rattle.history.specs.Table.{kindAt, valueAt}
 use Rattle.history.proofs.Basics.{up-to}
-use Rattle.matching.specs.Answers.{First}
 use Rattle.matching.specs.Matching.{AddOf, Takes, Cleared, partnerAt, Adder, Remover, Matching, Partners, AddedOnce, Noted}
 use Rattle.matching.proofs.Storing.{entry-stored}
 
@@ -45,14 +44,11 @@ module _ (table : List ℕ) (count r : ℕ) (partner : List ℕ) where
   pub noted-other : (kindAt table r ≡ remove → ⊥) → Noted table count r partner partner
   noted-other other = noted-nothing (λ k. absurd (other k))
 
-  pub noted-unknown : {a : ℕ} → First (AddOf table (valueAt table r)) count a → count ≤ a → Noted table count r partner partner
-  noted-unknown first l = noted-nothing (λ k b m. first .none-lower b (omega arith))
+  pub noted-unknown : ((a : ℕ) → a < count → AddOf table (valueAt table r) a → ⊥) → Noted table count r partner partner
+  noted-unknown none = noted-nothing (λ k. none)
 
   -- a remove and the add of its value are made partners
-  module _ (k : kindAt table r ≡ remove) (few : count ≤ maxRecords) (here : r < count) (sized : length partner ≡ maxRecords) {a : ℕ} (first : First (AddOf table (valueAt table r)) count a) (l : a < count) where
-    of : AddOf table (valueAt table r) a
-    of = first .holds l
-
+  module _ (k : kindAt table r ≡ remove) (few : count ≤ maxRecords) (here : r < count) (sized : length partner ≡ maxRecords) {a : ℕ} (l : a < count) (of : AddOf table (valueAt table r) a) where
     abbrev partner' : List ℕ
     partner' = set (set partner r (a + 1)) a (r + 1)
 

@@ -4,6 +4,7 @@ use Prim.Native.Nat.{ℕ, _+_, _-_, _≤_, _<_}
 use mathlib.Core.Path.{_≡_}
 use mathlib.Core.List.{List}
 use lib.ListN.{length, getD}
+use Rattle.map.specs.Map.{Linked}
 use Rattle.reader.specs.Log.{maxRecords}
 use Rattle.history.specs.History.{add, remove}
 use Rattle.history.specs.Table.{kindAt, valueAt}
@@ -12,6 +13,15 @@ use Rattle.history.specs.Table.{kindAt, valueAt}
 pub record AddOf (table : List ℕ) (value a : ℕ) : Type 0 where
   pub adds : kindAt table a ≡ add
   pub values : valueAt table a ≡ value
+
+-- The values of the adds among the first m operations are the n entries of a map, and the adds stand in a list: the one at i has the value of
+-- entry i.
+pub record AddsMapped (table : List ℕ) (m n : ℕ) (values chains adds : List ℕ) : Type 0 where
+  pub linked : Linked values chains n
+  pub sized : length adds ≡ maxRecords
+  pub within : n ≤ m
+  pub are : (i : ℕ) → i < n → (getD adds i 0 < m) × AddOf table (getD values i 0) (getD adds i 0)
+  pub all : (a : ℕ) → a < m → kindAt table a ≡ add → (i : ℕ) × (i < n) × (getD adds i 0 ≡ a)
 
 -- r is a remove of the value of a
 pub record Takes (table : List ℕ) (a r : ℕ) : Type 0 where

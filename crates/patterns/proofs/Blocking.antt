@@ -1,32 +1,61 @@
--- Pairs of adds that show the patterns 4 and 5, as the tables of partners and reaches have them.
-use Prim.Native.Nat.{ℕ, _-_, _<_}
+-- Adds that block others, as the tables of partners, of reaches and of the soonest returns have them.
+use Prim.Native.Nat.{ℕ, _≤_, _<_}
 use native.Mathlib.Omega.{arith}
-use native.Mathlib.Decide.{decLt}
+use native.Mathlib.Decide.{ℕ-discrete}
 use mathlib.Core.Path.{_≡_}
+use mathlib.Core.Logic.{_⊎_, inl, inr}
 use mathlib.Core.List.{List}
 use lib.Dec.{ltb}
+use borrow.Author.Tests.{eq-eqb, ne-eqb}
 use Rattle.history.specs.Answers.{Decides}
-use Rattle.history.specs.History.{add}
-use Rattle.history.specs.Table.{kindAt, callAt, returnAt}
-use Rattle.matching.specs.Answers.{First}
+use Rattle.history.specs.History.{History, add}
+use Rattle.history.specs.Table.{tabled}
+use Rattle.violations.specs.Violations.{Is}
+use Rattle.matching.specs.Held.{Held}
 use Rattle.matching.specs.Matching.{partnerAt}
-use Rattle.matching.specs.Reaches.{reachAt}
+use Rattle.matching.specs.Reaches.{reachAt, Reaching}
+use Rattle.matching.proofs.Firsts.{first-not-above}
+use Rattle.matching.proofs.Reaching.{reach-within}
 use Rattle.matching.proofs.Tests.{decided-less}
-use Rattle.patterns.specs.Blocked.{patternBy, Blocks, Blocking}
+use Rattle.patterns.specs.Blocked.{patternBy, Blocks, Blocking, removalBy, Soonest}
+use Rattle.patterns.proofs.Soonest.{called-after}
 
--- an add that is removed is blocked by one that precedes it if its remove returns in time
-pub decided-blocks : (table partner reach : List ℕ) (a b : ℕ) → kindAt table b ≡ add → (partnerAt partner b ≡ 0 → ⊥) → returnAt table a < callAt table b
-    → Decides (Blocks table partner reach a b) (ltb (returnAt table (partnerAt partner b - 1)) (reachAt reach a))
-decided-blocks table partner reach a b adds removed before = decided-less {P = Blocks table partner reach a b} _ _ (λ early. record { adds = adds; removed = omega arith; before = before; early = early }) (λ blocks. blocks .early)
+module _ {count end : ℕ} (table partner : List ℕ) {reach : List ℕ} (held : Held (tabled count end table)) (right : Reaching (tabled count end table) reach)
+    {a : ℕ} (is : Is (tabled count end table) add a) where
+  abbrev h : History
+  h = tabled count end table
 
--- an add of the pattern shows it if it blocks an operation
-pub decided-blocking : (table : List ℕ) (count : ℕ) (partner reach : List ℕ) (pattern a b : ℕ) → kindAt table a ≡ add → patternBy partner a ≡ pattern → First (Blocks table partner reach a) count b
-    → Decides (Blocking table count partner reach pattern a) (ltb b count)
-decided-blocking table count partner reach pattern a b adds is first = decided-less b count (λ l. record { adds = adds; is = is; some = (b, l, first .holds l) }) within
-  where
-    within : Blocking table count partner reach pattern a → b < count
-    within blocking = go (decLt b count) (blocking .some)
-      where
-        go : Dec (b < count) → (o : ℕ) × (o < count) × Blocks table partner reach a o → b < count
-        go (yes l) some = l
-        go (no n) (o, l, blocks) = absurd (first .none-lower o (omega (arith, first .within)) blocks)
+  -- an add is blocked exactly if it is called after a has returned, and its remove returns while a's value is still there
+  pub blocks-removal : {b : ℕ} → Blocks table partner reach a b → removalBy h partner b < reachAt reach a
+  blocks-removal {b} blocks = rw (eq-eqb _ _ (blocks .adds), ne-eqb (partnerAt partner b) 0 (λ e. omega (arith, blocks .removed))) (blocks .early)
+
+  pub removal-blocks : {b : ℕ} → h .ret a < h .call b → removalBy h partner b < reachAt reach a → Blocks table partner reach a b
+  removal-blocks {b} before early = go (ℕ-discrete (h .kind b) add) (ℕ-discrete (partnerAt partner b) 0)
+    where
+      go : Dec (h .kind b ≡ add) → Dec (partnerAt partner b ≡ 0) → Blocks table partner reach a b
+      go (no n) d = absurd (omega (arith, rw (ne-eqb _ _ n) at early, reach-within held right is))
+      go (yes k) (yes e) = absurd (omega (arith, rw (eq-eqb _ _ k, eq-eqb _ _ e) at early, reach-within held right is))
+      go (yes k) (no n) = record { adds = k; removed = omega arith; before = before; early = rw (eq-eqb _ _ k, ne-eqb _ _ n) at early }
+
+  -- a pending add precedes nothing
+  pub pending-blocks-none : {pattern : ℕ} → end ≤ h .ret a → Blocking table count partner reach pattern a → ⊥
+  pending-blocks-none pending blocking =
+      let (b, known, there) = blocking .some in
+      omega (arith, there .before, held .lawful .spans b known, held .lawful .ends b known)
+
+  -- one that has returned blocks an add exactly if the soonest return from there on comes while its value is still there
+  pub decided-blocking : {pattern x : ℕ} → patternBy partner a ≡ pattern → Soonest h partner (h .ret a) x
+      → Decides (Blocking table count partner reach pattern a) (ltb x (reachAt reach a))
+  decided-blocking {pattern} {x} shows soonest = decided-less x (reachAt reach a) (λ l. blocking l (soonest .least .met)) early
+    where
+      blocking : x < reachAt reach a → (x ≡ end) ⊎ ((b : ℕ) × (soonest .from ≤ b) × (b < count) × (removalBy h partner b ≡ x))
+          → Blocking table count partner reach pattern a
+      blocking l (inl e) = absurd (omega (arith, reach-within held right is))
+      blocking l (inr (b, after, known, e)) =
+          let before : h .ret a < h .call b = omega (arith, called-after held (soonest .called) after known, held .lawful .apart a b (is .known) known) in
+          record { adds = is .kinds; is = shows; some = (b, known, removal-blocks before (omega arith)) }
+
+      early : Blocking table count partner reach pattern a → x < reachAt reach a
+      early blocking =
+          let (b, known, there) = blocking .some in
+          omega (arith, blocks-removal there, soonest .least .below b (first-not-above (soonest .called) (omega (arith, there .before))) known)

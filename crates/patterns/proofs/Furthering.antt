@@ -1,86 +1,82 @@
--- The value that reaches furthest from a gap is found among the adds of a history, which are tried one after the other.
-use Prim.Native.Nat.{ℕ, _+_, _≤_, _<_}
+-- The value that covers a gap and reaches furthest is that of the highest rank among the adds that have returned by the gap.
+use Prim.Native.Nat.{ℕ, _+_, _-_, _*_, _/_, _%_, _≤_, _<_}
 use native.Mathlib.Omega.{arith}
-use native.Mathlib.Decide.{decLt, ℕ-discrete}
-use mathlib.Core.Path.{_≡_, refl, ap}
+use native.Mathlib.Decide.{decLt}
+use mathlib.Core.Path.{_≡_}
 use mathlib.Core.Logic.{_⊎_, inl, inr}
 use mathlib.Core.List.{List}
 use lib.ListN.{getD}
+use Rattle.reader.specs.Log.{maxRecords}
 use Rattle.history.specs.History.{History, add}
-use Rattle.history.proofs.Basics.{up-to}
-use Rattle.violations.specs.Violations.{Is, Covers, Furthest}
-use Rattle.matching.specs.Reaches.{reachAt, Reaching}
-use Rattle.patterns.specs.Chains.{Adds}
+use Rattle.violations.specs.Violations.{Is, Covers, Covered, Furthest}
+use Rattle.matching.specs.Held.{Held}
+use Rattle.matching.specs.Opened.{Opened}
+use Rattle.matching.specs.Reaches.{reachAt}
+use Rattle.matching.proofs.Numbers.{Larger}
+use Rattle.matching.proofs.Opening.{Highest, highest-starts, highest-more, highest-on}
+use Rattle.patterns.specs.Chains.{RanksNoted, NextNoted}
 
--- `best` is the first of the first i adds whose value covers the gap and reaches `far`.
-pub record Best (h : History) (reach adds : List ℕ) (gap i far best : ℕ) : Type 0 where
-  pub at : ℕ
-  pub within : at < i
-  pub is : getD adds at 0 ≡ best
-  pub returned : h .ret best ≤ gap
-  pub reaches : reachAt reach best ≡ far
-  pub none-before : (j : ℕ) → j < at → h .ret (getD adds j 0) ≤ gap → reachAt reach (getD adds j 0) < far
+-- The values whose adds return below position `from` were tried for a gap, by which they have returned, and `best` is the highest rank among them.
+pub record Tried (h : History) (noted : List ℕ) (gap from best : ℕ) : Type 0 where
+  pub returned : from ≤ gap + 1
+  pub highest : (rank : List ℕ) → Opened h rank (h .count) noted → Highest h rank from best
 
--- Of the first i adds none whose value covers the gap reaches beyond `far`; and `best` reaches it, unless it is the gap itself.
-pub record Furthered (h : History) (reach adds : List ℕ) (gap i far best : ℕ) : Type 0 where
-  pub from : gap ≤ far
-  pub none-further : (j : ℕ) → j < i → h .ret (getD adds j 0) ≤ gap → reachAt reach (getD adds j 0) ≤ far
-  pub found : gap < far → Best h reach adds gap i far best
+-- none yet
+pub tried-none : {h : History} {noted : List ℕ} {gap : ℕ} → Tried h noted gap 0 0
+tried-none {h} = record { returned = omega arith; highest = λ rank all. highest-starts h rank }
 
-pub furthered-starts : {h : History} {reach adds : List ℕ} {gap best : ℕ} → Furthered h reach adds gap 0 gap best
-furthered-starts = record { from = omega arith; none-further = λ j l. absurd (omega arith); found = λ l. absurd (omega arith) }
+module _ {h : History} {noted : List ℕ} {gap from best : ℕ} (tried : Tried h noted gap from best) where
+  -- they have returned by a later gap too
+  pub tried-on : {later : ℕ} → gap < later → Tried h noted later from best
+  tried-on l = record { returned = omega (arith, tried .returned); highest = tried .highest }
 
-module _ {h : History} {reach adds : List ℕ} {gap i far best : ℕ} (so-far : Furthered h reach adds gap i far best) where
-  -- the value of the next add does not reach further
-  pub furthered-not : (h .ret (getD adds i 0) ≤ gap → reachAt reach (getD adds i 0) ≤ far) → Furthered h reach adds gap (i + 1) far best
-  furthered-not nearer = record {
-    from = so-far .from;
-    none-further = up-to (so-far .none-further) nearer;
-    found = λ l. let b = so-far .found l in record { at = b .at; within = omega (arith, b .within); is = b .is; returned = b .returned; reaches = b .reaches; none-before = b .none-before };
-  }
-
-  -- it does
-  pub furthered-more : h .ret (getD adds i 0) ≤ gap → far < reachAt reach (getD adds i 0) → Furthered h reach adds gap (i + 1) (reachAt reach (getD adds i 0)) (getD adds i 0)
-  furthered-more returned further = record {
-    from = omega (arith, so-far .from);
-    none-further = up-to (λ j l r. omega (arith, so-far .none-further j l r)) (λ r. omega arith);
-    found = λ l. record { at = i; within = omega arith; is = refl; returned = returned; reaches = refl; none-before = λ j b r. omega (arith, so-far .none-further j b r) };
-  }
-
--- all adds were tried
-module _ {h : History} {reach adds : List ℕ} {n gap far best : ℕ} (reaching : Reaching h reach) (listed : Adds h (h .count) n adds) (tried : Furthered h reach adds gap n far best) (inside : gap < h .end) where
-  -- an add whose value covers the gap has returned, so it was tried
-  covering-tried : {a to : ℕ} → Covers h a to gap → (j : ℕ) × (j < n) × (getD adds j 0 ≡ a)
-  covering-tried {a} covers = listed .all a (covers .adds .known) (record { adds = covers .adds .kinds; returned = omega (arith, covers .from) })
-
-  -- so no value that covers the gap reaches further
-  pub none-reaches-further : {a to : ℕ} → Covers h a to gap → to ≤ far
-  none-reaches-further {a} {to} covers =
-      let (j, l, e) = covering-tried covers in
-      omega (arith, reaching .only a to (covers .adds) (covers .reaches), ap (reachAt reach) e, tried .none-further j l (rw e (covers .from)))
-
-  module _ (beyond : gap < far) where
-    b : Best h reach adds gap n far best
-    b = tried .found beyond
-
-    best-adds : Is h add best
-    best-adds = rw (b .is) at (listed .are (b .at) (b .within))
-
-    -- what reaches as far is no lower
-    best-lowest : {a to : ℕ} → Covers h a to gap → to ≡ far → best ≤ a
-    best-lowest {a} {to} covers same = let (j, l, e) = covering-tried covers in go j l e (decLt j (b .at)) (ℕ-discrete j (b .at))
-      where
-        go : (j : ℕ) → j < n → getD adds j 0 ≡ a → Dec (j < b .at) → Dec (j ≡ b .at) → best ≤ a
-        go j l e (yes before) d = absurd (omega (arith, b .none-before j before (rw e (covers .from)), ap (reachAt reach) e, reaching .only a to (covers .adds) (covers .reaches)))
-        go j l e (no n) (yes here) = omega (arith, b .is, ap (λ i. getD adds i 0) here)
-        go j l e (no n) (no other) = omega (arith, b .is, listed .rise (b .at) j (omega arith) l)
-
-    pub furthest-found : Furthest h best far gap
-    furthest-found = record {
-      covers = record { adds = best-adds; reaches = rw (← (b .reaches)) (reaching .reaches best best-adds); from = b .returned; until = beyond };
-      furthest = λ a to covers. ahead covers (decLt to far);
+  module _ (inside : gap < h .end) {x : ℕ} (next : NextNoted (h .end) noted from x) where
+    -- the next add to return does so by the gap
+    pub tried-more : x ≤ gap → {best' : ℕ} → Larger best (getD noted x 0) best' → Tried h noted gap (x + 1) best'
+    tried-more l larger = record {
+      returned = omega arith;
+      highest = λ rank all.
+          let before = highest-on all (tried .highest rank all) (next .from) (omega arith) (next .none-before) in
+          highest-more before (all .highest x (omega arith)) larger;
     }
-      where
-        ahead : {a to : ℕ} → Covers h a to gap → Dec (to < far) → (to < far) ⊎ ((to ≡ far) × (best ≤ a))
-        ahead covers (yes less) = inl less
-        ahead {a} {to} covers (no more) = let same : to ≡ far = omega (arith, none-reaches-further covers) in inr (same, best-lowest covers same)
+
+    -- it does not
+    pub tried-all : gap < x → {rank : List ℕ} → Opened h rank (h .count) noted → Highest h rank (gap + 1) best
+    tried-all l all = highest-on all (tried .highest _ all) (tried .returned) (omega arith) (λ g b m. next .none-before g b (omega arith))
+
+-- how far a value of this rank reaches, and of which add it is
+abbrev pub reachIn : ℕ → ℕ
+reachIn rank = rank / maxRecords
+
+abbrev pub addIn : ℕ → ℕ
+addIn rank = maxRecords - 1 - rank % maxRecords
+
+module _ {h : History} {noted : List ℕ} (held : Held h) (ranks : RanksNoted h noted) {gap best : ℕ}
+    (highest : Highest h (ranks .rank) (gap + 1) best) where
+  -- no value that covers the gap ranks higher than the best
+  ranks-below : {a to : ℕ} → Covers h a to gap → to * maxRecords + (maxRecords - 1 - a) ≤ best
+  ranks-below {a} {to} covers = omega (
+    arith,
+    highest .over a (covers .adds) (omega (arith, covers .from)),
+    ranks .ranked .ranks a (covers .adds .known) (covers .adds .kinds),
+    ranks .reaching .only a to (covers .adds) (covers .reaches),
+  )
+
+  pub gap-uncovered : reachIn best ≤ gap → Covered h gap → ⊥
+  gap-uncovered near (a, to, covers) = omega (arith, ranks-below covers, covers .until)
+
+  pub furthest-found : gap < reachIn best → Furthest h (addIn best) (reachIn best) gap
+  furthest-found beyond =
+      let (a, is, returned, e) = highest .met (omega arith) in
+      record { covers = covers a is returned e; furthest = λ b to other. ahead other (decLt to (reachIn best)) }
+    where
+      covers : (a : ℕ) → Is h add a → h .ret a < gap + 1 → getD (ranks .rank) a 0 ≡ best → Covers h (addIn best) (reachIn best) gap
+      covers a is returned e =
+          let rank = ranks .ranked .ranks a (is .known) (is .kinds) in
+          let here : addIn best ≡ a = omega (arith, rank, held .few, is .known) in
+          let far : reachIn best ≡ reachAt (ranks .reach) a = omega (arith, rank, held .few, is .known) in
+          rw (here, far) (record { adds = is; reaches = ranks .reaching .reaches a is; from = omega arith; until = omega arith })
+
+      ahead : {b to : ℕ} → Covers h b to gap → Dec (to < reachIn best) → (to < reachIn best) ⊎ ((to ≡ reachIn best) × (addIn best ≤ b))
+      ahead other (yes less) = inl less
+      ahead other (no more) = inr (omega (arith, ranks-below other), omega (arith, ranks-below other))

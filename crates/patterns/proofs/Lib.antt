@@ -1,4 +1,3 @@
-pub mod Adding
 pub mod Blocking
 pub mod Chaining
 pub mod FalseEmpties
@@ -6,5 +5,7 @@ pub mod Finding
 pub mod Furthering
 pub mod Lower
 pub mod Pairs
+pub mod Ranking
 pub mod Showing
 pub mod Signing
+pub mod Soonest

@@ -10,9 +10,11 @@ ghost use Rattle.matching.specs.Held.{Held};
 ghost use Rattle.matching.specs.Matching.{Partners};
 ghost use Rattle.matching.specs.Reaches.{Reaching};
 ghost use Rattle.patterns.specs.Finding.{Unsigned, Signed, InTurn, Paired, PatternListed};
+ghost use Rattle.patterns.specs.Blocked.{SoonestTable};
 use crate::blocked::OVERTAKEN;
 use crate::blocked::STUCK;
 use crate::blocked::blocked_by;
+use crate::blocked::fill_soonest;
 use crate::blocked::first_blocking;
 use crate::chain::false_empty;
 use crate::signs::EARLY;
@@ -22,6 +24,7 @@ use crate::signs::first_showing;
 use crate::signs::removed_again;
 use history::operations::Operations;
 use matching::values::Numbers;
+use reader::format::MAX_RECORDS;
 
 // The verdict byte, 0 for an order or the number of a pattern, and how many operations it lists.
 pub struct Finding {
@@ -83,17 +86,18 @@ fn find_pair(
     end: usize,
     partner: &Numbers,
     reach: &Numbers,
+    soonest: &Numbers,
     pattern: u32,
     list: &mut Numbers,
 ) -> usize
-    requires { ⌜ Held (tabled count end (now table)) × Partners (now table) count (now partner) × Unsigned (now table) count (now partner) × Reaching (tabled count end (now table)) (now reach) × InTurn (now table) count (now partner) (now reach) pattern × (length (now list) ≡ maxRecords) ⌝ }
+    requires { ⌜ Held (tabled count end (now table)) × Partners (now table) count (now partner) × Unsigned (now table) count (now partner) × Reaching (tabled count end (now table)) (now reach) × SoonestTable (tabled count end (now table)) (now partner) 0 (now soonest) × InTurn (now table) count (now partner) (now reach) pattern × (length (now list) ≡ maxRecords) ⌝ }
     ensures { λ k. ⌜ Paired (tabled count end (now (table .entry))) (now (table .entry)) (now (partner .entry)) (now (reach .entry)) pattern k (now (list .exit)) ⌝ }
 {
-    let a = first_blocking(table, count, partner, reach, pattern);
+    let a = first_blocking(table, count, end, partner, reach, soonest, pattern);
     if count <= a {
         return 0;
     }
-    let b = blocked_by(table, count, partner, reach, a);
+    let b = blocked_by(table, count, end, partner, reach, a);
     list[0] = a as u32;
     list[1] = b as u32;
     list[2] = partner[b] - 1;
@@ -116,14 +120,16 @@ pub fn find_cause(
     requires { ⌜ Held (tabled count end (now table)) × Partners (now table) count (now partner) × Unsigned (now table) count (now partner) × Reaching (tabled count end (now table)) (now reach) × (NoViolation Queue (tabled count end (now table)) → ⊥) × (length (now list) ≡ maxRecords) ⌝ }
     ensures { λ f. ⌜ PatternListed (tabled count end (now (table .entry))) (f .verdict) (f .listed) (now (list .exit)) ⌝ }
 {
-    let stuck = find_pair(table, count, end, partner, reach, STUCK, list);
+    let mut soonest = [0u32; MAX_RECORDS];
+    fill_soonest(table, count, end, partner, &mut soonest);
+    let stuck = find_pair(table, count, end, partner, reach, &soonest, STUCK, list);
     if 0 < stuck {
         return Finding {
             verdict: STUCK,
             listed: stuck,
         };
     }
-    let overtaken = find_pair(table, count, end, partner, reach, OVERTAKEN, list);
+    let overtaken = find_pair(table, count, end, partner, reach, &soonest, OVERTAKEN, list);
     if 0 < overtaken {
         return Finding {
             verdict: OVERTAKEN,

@@ -3,12 +3,13 @@ use Prim.Native.Nat.{ℕ, _+_, _≤_, _<_}
 use native.Mathlib.Omega.{arith}
 use mathlib.Core.Path.{_≡_, ap, _∙_}
 use mathlib.Core.List.{List}
-use lib.ListN.{length, getD, set, length-set, replicate}
+use lib.ListN.{length, getD, set, length-set}
 use lib.Seq.{getD-set-same, getD-set-other}
 use Rattle.record.specs.Record.{decodeAt}
 use Rattle.record.specs.declared.record.Record.{Record}
 use Rattle.record.specs.declared.record.Decoded.{Decoded}
 use Rattle.record.specs.declared.record.Decoded.the-variants.{Found}
+use Rattle.map.proofs.Laws.{newKeys, newChains}
 use Rattle.reader.specs.Log.{headerLength, maxRecords}
 use Rattle.history.specs.Operations.{operationAt}
 use Rattle.history.specs.Owners.{Owned}
@@ -27,7 +28,7 @@ pub record Marking (log : List ℕ) (end : ℕ) (kept callers recent marks : Lis
   pub marked : (j : ℕ) → j < i → getD marks j 0 ≡ getD kept (operationAt (walking .whole .records) j) 0
 
 pub marking-starts : {log kept marks : List ℕ} {end : ℕ} → Whole log end → length marks ≡ maxRecords
-    → Marking log end kept (replicate maxRecords 0) (replicate maxRecords 0) marks headerLength 0 0
+    → Marking log end kept newKeys newChains marks headerLength 0 0
 marking-starts whole sized = record { walking = walking-starts whole; sized = sized; marked = λ j l. absurd (omega arith) }
 
 module _ {log kept callers recent marks : List ℕ} {end at count i : ℕ} (marking : Marking log end kept callers recent marks at count i) where

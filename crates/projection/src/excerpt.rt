@@ -21,18 +21,17 @@ use history::operations::kind_of;
 use history::operations::tabulate;
 use history::operations::value_of;
 use judge::decide::decide;
+use matching::values::Numbers;
 use patterns::find::ORDER;
 use reader::format::MAX_RECORDS;
 use reader::log::Checked;
-use table::table::Table;
-use table::table::push;
 
 // The number of the refusal of an excerpt where the verdict is an order.
 const NO_PATTERN: u32 = 23;
 
 // Puts the value of an operation behind those of a table; what has no kind has no value, nor has an empty remove. Answers
 // how many values there are then.
-fn add_value(table: &Operations, o: usize, count: usize, values: &mut Table) -> usize
+fn add_value(table: &Operations, o: usize, count: usize, values: &mut Numbers) -> usize
     requires { ⌜ (o < maxRecords) × (count < maxRecords) × (length (now values) ≡ maxRecords) ⌝ }
     ensures { λ r. ⌜ ValueAdded (now (table .entry)) o count (now (values .entry)) r (now (values .exit)) ⌝ }
 {
@@ -43,12 +42,12 @@ fn add_value(table: &Operations, o: usize, count: usize, values: &mut Table) -> 
     if kind == EMPTY_REMOVE {
         return count;
     }
-    push(values, count, value_of(table, o));
+    values[count] = value_of(table, o);
     count + 1
 }
 
 // Collects the values of the listed operations. Answers how many there are.
-fn collect(table: &Operations, listed: &[u32], values: &mut Table) -> usize
+fn collect(table: &Operations, listed: &[u32], values: &mut Numbers) -> usize
     requires { ⌜ Listable (now listed) × (length (now values) ≡ maxRecords) ⌝ }
     ensures { λ r. ⌜ ValuesAre (now (table .entry)) (now (listed .entry)) r (now (values .exit)) ⌝ }
 {

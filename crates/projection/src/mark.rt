@@ -6,8 +6,9 @@ ghost use Rattle.history.specs.Table.{Whole};
 ghost use Rattle.projection.specs.Marks.{MarksAre};
 use crate::keep::Marks;
 use history::owners::owner_of;
+use map::map::LINKS;
+use map::map::SIZE;
 use reader::format::HEADER;
-use reader::format::MAX_RECORDS;
 use record::record::Decoded;
 use record::record::decode_at;
 
@@ -16,8 +17,8 @@ pub(crate) fn mark(log: &[u8], records: usize, kept: &Marks, marks: &mut Marks)
     requires { ⌜ Whole (now log) records × (length (now marks) ≡ maxRecords) ⌝ }
     ensures { λ _. ⌜ MarksAre (now (log .entry)) (now (kept .entry)) (now (marks .exit)) ⌝ }
 {
-    let mut callers = [0u32; MAX_RECORDS];
-    let mut recent = [0u32; MAX_RECORDS];
+    let mut callers = [0u32; SIZE];
+    let mut recent = [0u16; LINKS];
     let mut at = HEADER;
     let mut count = 0;
     let mut i = 0;

@@ -1,10 +1,12 @@
 -- The tables hold what they should after each record: what a record that nothing is wrong with does to them.
 use Prim.Native.Nat.{ℕ, _+_, _*_, _≤_, _<_}
 use native.Mathlib.Omega.{arith}
+use native.Mathlib.Numerals.{add-one}
 use mathlib.Core.Path.{_≡_, refl, sym, ap, _∙_}
 use mathlib.Core.Bool.{not}
 use mathlib.Core.List.{List, [], _∷_, _++_, map, map-append, append-nil}
-use lib.ListN.{length, take, length-append}
+use lib.ListN.{length, set, take, length-append}
+use lib.Seq.{take-suc-set}
 use lib.Dec.{ltb, eqb, lit≤}
 use Rattle.record.specs.Choice.{if_then_else_}
 use Rattle.record.specs.declared.record.Event.{Event}
@@ -13,14 +15,15 @@ use Rattle.record.specs.declared.record.Record.{Record}
 use Rattle.reader.specs.Log.{maxRecords, Call, callOf, pendingCalls, pendingKind, valueOf, addedValues, lastTick, isCall, operations, eventFault, fault}
 use Rattle.reader.specs.Readable.{asks}
 use Rattle.reader.specs.Tables.{clientsOf, code, eventFaultIn, faultIn, PendingKept, AddedKept, Room, Kept, Begun, Ended}
-use Rattle.table.specs.Table.{position, without, Pushed}
+use Rattle.table.specs.Table.{position, without}
+use Rattle.map.specs.Map.{Linked}
 use Rattle.reader.specs.declared.scan.Progress.{Progress}
 use Rattle.table.proofs.Lists.{map-without, length-without}
 use Rattle.reader.proofs.Faults.{no-fault}
 use Rattle.reader.proofs.Calls.{Sound, others-all, others-without, pending-sound, pending-few, kind-found, client-in}
 
 -- what the code finds wrong is what is wrong
-pub fault-found : {past : List Record} {p : Progress} {clients codes values : List ℕ} → Kept past p clients codes values → (r : Record) → faultIn r p clients codes values ≡ fault past r
+pub fault-found : {past : List Record} {p : Progress} {clients codes values chains : List ℕ} → Kept past p clients codes values chains → (r : Record) → faultIn r p clients codes values ≡ fault past r
 unfolding fault faultIn eventFault
 fault-found {past} {p} {clients} {codes} {values} k r =
     rw (k .tick, k .pending .clients-are, k .pending .codes-are, k .added .values-are)
@@ -84,25 +87,25 @@ operations-few (r ∷ past) = omega (arith, operations-few past, one (r .event))
     one (ReturnRemove x) = lit≤ tt
 
 -- the tables have room while there are records to come
-pub has-room : {past : List Record} {p : Progress} {clients codes values : List ℕ} → Kept past p clients codes values → length past < maxRecords → Room p clients codes values
+pub has-room : {past : List Record} {p : Progress} {clients codes values chains : List ℕ} → Kept past p clients codes values chains → length past < maxRecords → Room p clients codes values chains
 has-room {past} k h = record {
   pending = omega (arith, k .pending .counted, pending-few past);
   added = omega (arith, k .added .counted, added-few past);
   operations = omega (arith, k .calls, operations-few past);
   clients-sized = k .pending .clients-sized;
   codes-sized = k .pending .codes-sized;
-  values-sized = k .added .values-sized;
+  linked = k .added .linked;
 }
 
 -- tables of which nothing is in use hold what is known before the first record
-pub keeps-none : (at : ℕ) (clients codes values : List ℕ) → length clients ≡ maxRecords → length codes ≡ maxRecords → length values ≡ maxRecords
-    → Kept [] (record { at = at; tick = 0; pending = 0; added = 0; operations = 0 }) clients codes values
+pub keeps-none : (at : ℕ) (clients codes values chains : List ℕ) → length clients ≡ maxRecords → length codes ≡ maxRecords → Linked values chains 0
+    → Kept [] (record { at = at; tick = 0; pending = 0; added = 0; operations = 0 }) clients codes values chains
 unfolding pendingCalls addedValues operations
-keeps-none at clients codes values lc ld lv = record {
+keeps-none at clients codes values chains lc ld linked = record {
   tick = refl;
   calls = refl;
   pending = record { counted = refl; clients-are = refl; codes-are = refl; clients-sized = lc; codes-sized = ld };
-  added = record { counted = refl; values-are = refl; values-sized = lv };
+  added = record { counted = refl; values-are = refl; linked = linked };
 }
 
 module _ {past : List Record} (r : Record) where
@@ -134,36 +137,38 @@ module _ {past : List Record} (r : Record) where
         codes-sized = e .codes-sized;
       }
 
-  added-none : {count : ℕ} {values : List ℕ} → AddedKept past count values → valueOf (r .event) ≡ [] → AddedKept (r ∷ past) count values
+  added-none : {count : ℕ} {values chains : List ℕ} → AddedKept past count values chains → valueOf (r .event) ≡ [] → AddedKept (r ∷ past) count values chains
   unfolding addedValues
   added-none k z = record {
     counted = rw (z, append-nil) (k .counted);
     values-are = rw (z, append-nil) (k .values-are);
-    values-sized = k .values-sized;
+    linked = k .linked;
   }
 
-  added-one : {count v : ℕ} {values values' : List ℕ} → AddedKept past count values → valueOf (r .event) ≡ v ∷ [] → Pushed count v values values' → AddedKept (r ∷ past) (count + 1) values'
+  added-one : {count v : ℕ} {values chains values' chains' : List ℕ} → AddedKept past count values chains → valueOf (r .event) ≡ v ∷ [] → count < maxRecords → values' ≡ set values count v
+      → Linked values' chains' (count + 1) → AddedKept (r ∷ past) (count + 1) values' chains'
   unfolding addedValues
-  added-one k z p = record {
+  added-one {count} {v} {values} k z room is linked = record {
     counted = rw (z, length-append) (omega (arith, k .counted));
-    values-are = rw (z, ← (k .values-are)) (p .holds);
-    values-sized = p .sized;
+    values-are = rw (z, ← (k .values-are), is, add-one) (take-suc-set values count v (omega (arith, k .linked .keys-sized)));
+    linked = linked;
   }
 
   -- all that is kept, after a record of each kind
-  module _ {p : Progress} {index : ℕ} {clients codes values clients' codes' : List ℕ} (k : Kept past p clients codes values) (len : length past ≡ index) (ok : fault past r ≡ 0) (next : ℕ) where
-    pub keeps-add : {v : ℕ} {values' : List ℕ} → r .event ≡ CallAdd v → Begun (p .pending) (r .client) (index * 4 + 1) clients codes clients' codes' → Pushed (p .added) v values values'
-        → Kept (r ∷ past) (record { at = next; tick = r .tick; pending = p .pending + 1; added = p .added + 1; operations = p .operations + 1 }) clients' codes' values'
+  module _ {p : Progress} {index : ℕ} {clients codes values chains clients' codes' : List ℕ} (k : Kept past p clients codes values chains) (len : length past ≡ index) (ok : fault past r ≡ 0) (next : ℕ) where
+    pub keeps-add : {v : ℕ} {values' chains' : List ℕ} → r .event ≡ CallAdd v → Begun (p .pending) (r .client) (index * 4 + 1) clients codes clients' codes'
+        → p .added < maxRecords → values' ≡ set values (p .added) v → Linked values' chains' (p .added + 1)
+        → Kept (r ∷ past) (record { at = next; tick = r .tick; pending = p .pending + 1; added = p .added + 1; operations = p .operations + 1 }) clients' codes' values' chains'
     unfolding operations
-    keeps-add e b v = record {
+    keeps-add e b room is linked = record {
       tick = refl;
       calls = rw e (omega (arith, k .calls));
       pending = pending-called (k .pending) len 1 (rw e refl) (no-fault past r ok .asked ∙ ap asks e) b;
-      added = added-one (k .added) (rw e refl) v;
+      added = added-one (k .added) (rw e refl) room is linked;
     }
 
     pub keeps-remove : r .event ≡ CallRemove → Begun (p .pending) (r .client) (index * 4 + 2) clients codes clients' codes'
-        → Kept (r ∷ past) (record { at = next; tick = r .tick; pending = p .pending + 1; added = p .added; operations = p .operations + 1 }) clients' codes' values
+        → Kept (r ∷ past) (record { at = next; tick = r .tick; pending = p .pending + 1; added = p .added; operations = p .operations + 1 }) clients' codes' values chains
     unfolding operations
     keeps-remove e b = record {
       tick = refl;
@@ -173,7 +178,7 @@ module _ {past : List Record} (r : Record) where
     }
 
     pub keeps-return : {left : ℕ} → (asks (r .event) ≡ 0 → ⊥) → Ended (p .pending) (r .client) clients codes left clients' codes'
-        → Kept (r ∷ past) (record { at = next; tick = r .tick; pending = left; added = p .added; operations = p .operations }) clients' codes' values
+        → Kept (r ∷ past) (record { at = next; tick = r .tick; pending = left; added = p .added; operations = p .operations }) clients' codes' values chains
     unfolding operations
     keeps-return n e =
         let nothing = returns-nothing (r .event) (r .client) (length past) n in

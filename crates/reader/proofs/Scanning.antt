@@ -14,6 +14,7 @@ use Rattle.record.specs.declared.record.Decoded.the-variants.{Found, Malformed}
 use Rattle.reader.specs.Log.{Reading, readable, refused, logVersion, headerLength, maxRecords, countField, fault, scan, readPartial, operations, pendingCalls, earliestRemove, pendingRemove, complete, checked}
 use Rattle.reader.specs.Tables.{faultIn, earliestCode, Room, Kept, Admitted, Goes, Stepped, AllKept, Passed, through, stopped, FaultBehind, headerOf, surveyed}
 use Rattle.table.specs.Table.{Fits as InUse}
+use Rattle.map.specs.Map.{Linked}
 use Rattle.reader.specs.declared.scan.Progress.{Progress}
 use Rattle.reader.specs.declared.scan.Step.{Step}
 use Rattle.reader.specs.declared.scan.Step.the-variants.{Next, Stop}
@@ -42,11 +43,11 @@ operations-reverse [] = refl
 operations-reverse (r ∷ rs) = rw (reverse-cons, operations-append) (omega (arith, operations-reverse rs))
 
 -- After i of `count` records: the tables hold what is kept of them, and the rest of the scan is the whole.
-pub record Scanned (log : List ℕ) (count : ℕ) (clients codes values : List ℕ) (p : Progress) (i : ℕ) : Type 0 where
+pub record Scanned (log : List ℕ) (count : ℕ) (clients codes values chains : List ℕ) (p : Progress) (i : ℕ) : Type 0 where
   pub below : i ≤ count
   pub past : List Record
   pub counted : length past ≡ i
-  pub kept : Kept past p clients codes values
+  pub kept : Kept past p clients codes values chains
   pub rest : scan log count headerLength [] ≡ scan log (count - i) (p .at) past
 
 module _ (log : List ℕ) (past : List Record) (at : ℕ) where
@@ -63,19 +64,19 @@ module _ (log : List ℕ) (past : List Record) (at : ℕ) where
   scan-on {r} e z left = rw (e, eq-eqb (fault past r) 0 z) refl
 
 -- one record read: it is malformed, something is wrong with it, or it is kept
-module _ {log : List ℕ} {index : ℕ} {p : Progress} {clients codes values clients' codes' values' : List ℕ} where
-  pub stops-malformed : {number : ℕ} → decodeAt log (p .at) ≡ Malformed number → Stepped log index p clients codes values (Stop number) clients' codes' values'
+module _ {log : List ℕ} {index : ℕ} {p : Progress} {clients codes values chains clients' codes' values' chains' : List ℕ} where
+  pub stops-malformed : {number : ℕ} → decodeAt log (p .at) ≡ Malformed number → Stepped log index p clients codes values chains (Stop number) clients' codes' values' chains'
   stops-malformed e = record { goes = λ past k len. scan-malformed log past (p .at) e }
 
   pub stops-fault : {r : Record} {next f : ℕ} → decodeAt log (p .at) ≡ Found r next → f ≡ faultIn r p clients codes values → (f ≡ 0 → ⊥)
-      → Stepped log index p clients codes values (Stop f) clients' codes' values'
+      → Stepped log index p clients codes values chains (Stop f) clients' codes' values' chains'
   stops-fault {r} e is n = record {
     goes = λ past k len left.
         scan-fault log past (p .at) e (λ z. n (is ∙ (fault-found k r ∙ z))) left ∙ ap (λ (f : ℕ). refused f (length past)) (sym (is ∙ fault-found k r));
   }
 
   pub goes-on : {r : Record} {next f : ℕ} {q : Progress} → decodeAt log (p .at) ≡ Found r next → f ≡ faultIn r p clients codes values → f ≡ 0
-      → Admitted r next index p clients codes values q clients' codes' values' → Stepped log index p clients codes values (Next q) clients' codes' values'
+      → Admitted r next index p clients codes values chains q clients' codes' values' chains' → Stepped log index p clients codes values chains (Next q) clients' codes' values' chains'
   goes-on {r} {next} e is z a = record {
     goes = λ past k len.
         let ok = sym (is ∙ fault-found k r) ∙ z in
@@ -83,30 +84,30 @@ module _ {log : List ℕ} {index : ℕ} {p : Progress} {clients codes values cli
   }
 
 -- the loop over the records: it starts, it stops at a refusal, it goes on, it meets left bytes, it ends
-pub loop-starts : (log : List ℕ) (count : ℕ) (clients codes values : List ℕ) → length clients ≡ maxRecords → length codes ≡ maxRecords → length values ≡ maxRecords
-    → Scanned log count clients codes values (record { at = headerLength; tick = 0; pending = 0; added = 0; operations = 0 }) 0
-loop-starts log count clients codes values lc ld lv = record {
+pub loop-starts : (log : List ℕ) (count : ℕ) (clients codes values chains : List ℕ) → length clients ≡ maxRecords → length codes ≡ maxRecords → Linked values chains 0
+    → Scanned log count clients codes values chains (record { at = headerLength; tick = 0; pending = 0; added = 0; operations = 0 }) 0
+loop-starts log count clients codes values chains lc ld linked = record {
   below = omega arith;
   past = [];
   counted = refl;
-  kept = keeps-none headerLength clients codes values lc ld lv;
+  kept = keeps-none headerLength clients codes values chains lc ld linked;
   rest = ap (λ (n : ℕ). scan log n headerLength []) (omega arith);
 }
 
-module _ {log : List ℕ} {count : ℕ} {clients codes values : List ℕ} {p : Progress} {i : ℕ} (s : Scanned log count clients codes values p i) where
+module _ {log : List ℕ} {count : ℕ} {clients codes values chains : List ℕ} {p : Progress} {i : ℕ} (s : Scanned log count clients codes values chains p i) where
   one-more : i < count → count - i ≡ suc (count - (i + 1))
   one-more h = omega arith
 
-  pub loop-stops : {clients' codes' values' : List ℕ} {step : Step} {number : ℕ} → i < count → Stepped log i p clients codes values step clients' codes' values' → step ≡ Stop number
+  pub loop-stops : {clients' codes' values' chains' : List ℕ} {step : Step} {number : ℕ} → i < count → Stepped log i p clients codes values chains step clients' codes' values' chains' → step ≡ Stop number
       → scan log count headerLength [] ≡ refused number i
-  loop-stops {clients'} {codes'} {values'} {number = number} h g e =
-      let goes : Goes log (s .past) (p .at) clients' codes' values' (Stop number) = rw e at (g .goes (s .past) (s .kept) (s .counted)) in
+  loop-stops {clients'} {codes'} {values'} {chains'} {number = number} h g e =
+      let goes : Goes log (s .past) (p .at) clients' codes' values' chains' (Stop number) = rw e at (g .goes (s .past) (s .kept) (s .counted)) in
       rw (s .rest, one-more h, goes (count - (i + 1)), s .counted) refl
 
-  pub loop-goes : {clients' codes' values' : List ℕ} {step : Step} {q : Progress} → i < count → Stepped log i p clients codes values step clients' codes' values' → step ≡ Next q
-      → Scanned log count clients' codes' values' q (i + 1)
-  loop-goes {clients'} {codes'} {values'} {q = q} h g e =
-      let goes : Goes log (s .past) (p .at) clients' codes' values' (Next q) = rw e at (g .goes (s .past) (s .kept) (s .counted)) in
+  pub loop-goes : {clients' codes' values' chains' : List ℕ} {step : Step} {q : Progress} → i < count → Stepped log i p clients codes values chains step clients' codes' values' chains' → step ≡ Next q
+      → Scanned log count clients' codes' values' chains' q (i + 1)
+  loop-goes {clients'} {codes'} {values'} {chains'} {q = q} h g e =
+      let goes : Goes log (s .past) (p .at) clients' codes' values' chains' (Next q) = rw e at (g .goes (s .past) (s .kept) (s .counted)) in
       record {
         below = omega arith;
         past = goes .0 ∷ s .past;
@@ -115,7 +116,7 @@ module _ {log : List ℕ} {count : ℕ} {clients codes values : List ℕ} {p : P
         rest = s .rest ∙ (ap (λ (n : ℕ). scan log n (p .at) (s .past)) (one-more h) ∙ goes .2 (count - (i + 1)));
       }
 
-  pub loop-has-room : i < maxRecords → Room p clients codes values
+  pub loop-has-room : i < maxRecords → Room p clients codes values chains
   loop-has-room h = has-room (s .kept) (omega (arith, s .counted))
 
   ends : count ≤ i → scan log count headerLength [] ≡ scan log zero (p .at) (s .past)
@@ -127,44 +128,44 @@ module _ {log : List ℕ} {count : ℕ} {clients codes values : List ℕ} {p : P
       let all : length (s .past) ≡ count = omega (arith, s .counted, s .below) in
       rw (ends h, lt-ltb (p .at) (length log) more, all) refl
 
-  pub loop-ends : count ≤ i → length log ≤ p .at → AllKept log count p clients codes values
+  pub loop-ends : count ≤ i → length log ≤ p .at → AllKept log count p clients codes values chains
   unfolding scan
   loop-ends h none = record { past = s .past; counted = omega (arith, s .counted, s .below); kept = s .kept; reads = rw (ends h, le-ltb (p .at) (length log) none) refl }
 
 -- bytes that are handed in as one record: they are none, or something is wrong with what they are, or nothing
-module _ {bytes : List ℕ} {p : Progress} {clients codes values : List ℕ} where
-  pub behind-other : (length bytes ≡ getD bytes 0 0 + 1 → ⊥) → FaultBehind bytes p clients codes values 1
+module _ {bytes : List ℕ} {p : Progress} {clients codes values chains : List ℕ} where
+  pub behind-other : (length bytes ≡ getD bytes 0 0 + 1 → ⊥) → FaultBehind bytes p clients codes values chains 1
   unfolding faultBehind
   behind-other n = record { found = λ past kept. rw (ne-eqb (length bytes) (getD bytes 0 0 + 1) n) refl }
 
   module _ (one : length bytes ≡ getD bytes 0 0 + 1) where
-    pub behind-malformed : {number : ℕ} → decodeAt bytes 0 ≡ Malformed number → FaultBehind bytes p clients codes values number
+    pub behind-malformed : {number : ℕ} → decodeAt bytes 0 ≡ Malformed number → FaultBehind bytes p clients codes values chains number
     unfolding faultBehind
     behind-malformed e = record { found = λ past kept. rw (eq-eqb (length bytes) (getD bytes 0 0 + 1) one, e) refl }
 
-    pub behind-fault : {r : Record} {next f : ℕ} → decodeAt bytes 0 ≡ Found r next → f ≡ faultIn r p clients codes values → FaultBehind bytes p clients codes values f
+    pub behind-fault : {r : Record} {next f : ℕ} → decodeAt bytes 0 ≡ Found r next → f ≡ faultIn r p clients codes values → FaultBehind bytes p clients codes values chains f
     unfolding faultBehind
     behind-fault {r} e is = record { found = λ past kept. rw (eq-eqb (length bytes) (getD bytes 0 0 + 1) one, e) (is ∙ fault-found kept r) }
 
 -- the outcome of reading all records, by its case
-pub passed-all : {log : List ℕ} {count : ℕ} {r : Pass} {p : Progress} {clients codes values : List ℕ} → Passed log count r clients codes values → r ≡ Through p → AllKept log count p clients codes values
-passed-all {log} {count} {p = p} {clients} {codes} {values} passed e = go (rw e at passed)
+pub passed-all : {log : List ℕ} {count : ℕ} {r : Pass} {p : Progress} {clients codes values chains : List ℕ} → Passed log count r clients codes values chains → r ≡ Through p → AllKept log count p clients codes values chains
+passed-all {log} {count} {p = p} {clients} {codes} {values} {chains} passed e = go (rw e at passed)
   where
-    go : Passed log count (Through p) clients codes values → AllKept log count p clients codes values
+    go : Passed log count (Through p) clients codes values chains → AllKept log count p clients codes values chains
     go (through all) = all
 
-pub passed-not : {log : List ℕ} {count : ℕ} {r : Pass} {number index : ℕ} {clients codes values : List ℕ} → Passed log count r clients codes values → r ≡ Stopped number index → scan log count headerLength [] ≡ refused number index
-passed-not {log} {count} {number = number} {index} {clients} {codes} {values} passed e = go (rw e at passed)
+pub passed-not : {log : List ℕ} {count : ℕ} {r : Pass} {number index : ℕ} {clients codes values chains : List ℕ} → Passed log count r clients codes values chains → r ≡ Stopped number index → scan log count headerLength [] ≡ refused number index
+passed-not {log} {count} {number = number} {index} {clients} {codes} {values} {chains} passed e = go (rw e at passed)
   where
-    go : Passed log count (Stopped number index) clients codes values → scan log count headerLength [] ≡ refused number index
+    go : Passed log count (Stopped number index) clients codes values chains → scan log count headerLength [] ≡ refused number index
     go (stopped refusal) = refusal
 
 -- all records have been read
-module _ {log : List ℕ} {count : ℕ} {p : Progress} {clients codes values : List ℕ} (all : AllKept log count p clients codes values) where
+module _ {log : List ℕ} {count : ℕ} {p : Progress} {clients codes values chains : List ℕ} (all : AllKept log count p clients codes values chains) where
   pub all-fit : count ≤ maxRecords → InUse (p .pending) codes
   all-fit h = record { within = omega (arith, all .counted, all .kept .pending .counted, pending-few (all .past)); sized = all .kept .pending .codes-sized }
 
-  pub all-have-room : count < maxRecords → Room p clients codes values
+  pub all-have-room : count < maxRecords → Room p clients codes values chains
   all-have-room h = has-room (all .kept) (omega (arith, all .counted))
 
   pub all-surveyed : {least : ℕ} → least ≡ earliestCode (take (p .pending) codes) count → Whole count (p .operations) least ≡ surveyed (scan log count headerLength [])
@@ -179,7 +180,7 @@ module _ {log : List ℕ} {count : ℕ} {p : Progress} {clients codes values : L
     pub extends-full : maxRecords ≤ count → Full ≡ extended (scan log count headerLength []) bytes
     extends-full h = rw (all .reads, length-reverse (all .past), all .counted, le-leb maxRecords count h) refl
 
-    module _ {number : ℕ} (behind : FaultBehind bytes p clients codes values number) (h : count < maxRecords) where
+    module _ {number : ℕ} (behind : FaultBehind bytes p clients codes values chains number) (h : count < maxRecords) where
       is : faultBehind (all .past) bytes ≡ number
       is = sym (behind .found (all .past) (all .kept))
 

@@ -1,4 +1,5 @@
--- What the code keeps of the records that it has read, in tables of numbers. What a readable log is can be understood without this file.
+-- What the code keeps of the records that it has read, in tables of numbers and a map. What a readable log is can be understood without this
+-- file.
 use Prim.Native.Nat.{ℕ, suc, _+_, _-_, _*_, _/_, _%_, _<_}
 use mathlib.Core.Path.{_≡_}
 use mathlib.Core.Bool.{not}
@@ -11,6 +12,7 @@ use Rattle.record.specs.declared.record.Event.{Event}
 use Rattle.record.specs.declared.record.Event.the-variants.{CallAdd, CallRemove, ReturnAdd, ReturnRemove}
 use Rattle.record.specs.declared.record.Record.{Record}
 use Rattle.table.specs.Table.{isIn, position, without, Pushed}
+use Rattle.map.specs.Map.{Linked}
 use Rattle.reader.specs.Log.{logVersion, headerLength, maxRecords, countField, addCall, removeCall, Call, Reading, readable, refused, pendingCalls, addedValues, lastTick, operations, pendingRemove, fault, scan}
 use Rattle.reader.specs.Feed.{faultBehind}
 use Rattle.reader.specs.declared.scan.Progress.{Progress}
@@ -42,13 +44,13 @@ earliestCode [] none = none
 earliestCode (c ∷ cs) none = if eqb (c % 4) removeCall then c / 4 else earliestCode cs none
 
 -- There is room for one record more.
-pub record Room (p : Progress) (clients codes values : List ℕ) : Type 0 where
+pub record Room (p : Progress) (clients codes values chains : List ℕ) : Type 0 where
   pub pending : p .pending < maxRecords
   pub added : p .added < maxRecords
   pub operations : p .operations < maxRecords
   pub clients-sized : length clients ≡ maxRecords
   pub codes-sized : length codes ≡ maxRecords
-  pub values-sized : length values ≡ maxRecords
+  pub linked : Linked values chains (p .added)
 
 -- The tables hold the clients and the codes of the calls that are pending after the past.
 pub record PendingKept (past : List Record) (count : ℕ) (clients codes : List ℕ) : Type 0 where
@@ -58,18 +60,18 @@ pub record PendingKept (past : List Record) (count : ℕ) (clients codes : List 
   pub clients-sized : length clients ≡ maxRecords
   pub codes-sized : length codes ≡ maxRecords
 
--- The table holds the values added in the past.
-pub record AddedKept (past : List Record) (count : ℕ) (values : List ℕ) : Type 0 where
+-- The map holds the values added in the past.
+pub record AddedKept (past : List Record) (count : ℕ) (values chains : List ℕ) : Type 0 where
   pub counted : count ≡ length (addedValues past)
   pub values-are : take count values ≡ addedValues past
-  pub values-sized : length values ≡ maxRecords
+  pub linked : Linked values chains count
 
 -- All that is kept of the past.
-pub record Kept (past : List Record) (p : Progress) (clients codes values : List ℕ) : Type 0 where
+pub record Kept (past : List Record) (p : Progress) (clients codes values chains : List ℕ) : Type 0 where
   pub tick : p .tick ≡ lastTick past
   pub calls : p .operations ≡ operations past
   pub pending : PendingKept past (p .pending) clients codes
-  pub added : AddedKept past (p .added) values
+  pub added : AddedKept past (p .added) values chains
 
 -- 7 to 9, as the tables have it
 abbrev pub eventFaultIn : Event → ℕ → List ℕ → List ℕ → List ℕ → ℕ
@@ -99,34 +101,34 @@ pub record Ended (count client : ℕ) (clients codes : List ℕ) (left : ℕ) (c
   pub codes-left : position client (take count clients) < count → take left codes' ≡ without (position client (take count clients)) (take count codes)
 
 -- The tables hold what they held and the record r, the next one to read stands at `next`.
-pub record Admitted (r : Record) (next index : ℕ) (p : Progress) (clients codes values : List ℕ) (q : Progress) (clients' codes' values' : List ℕ) : Type 0 where
+pub record Admitted (r : Record) (next index : ℕ) (p : Progress) (clients codes values chains : List ℕ) (q : Progress) (clients' codes' values' chains' : List ℕ) : Type 0 where
   pub at : q .at ≡ next
-  pub kept : (past : List Record) → Kept past p clients codes values → length past ≡ index → fault past r ≡ 0 → Kept (r ∷ past) q clients' codes' values'
+  pub kept : (past : List Record) → Kept past p clients codes values chains → length past ≡ index → fault past r ≡ 0 → Kept (r ∷ past) q clients' codes' values' chains'
 
 -- A step of the scan: it ends there with a refusal, or the tables hold one record more.
-abbrev pub Goes : List ℕ → List Record → ℕ → List ℕ → List ℕ → List ℕ → Step → Type 0
-Goes log past at clients codes values (Stop number) = (left : ℕ) → scan log (suc left) at past ≡ refused number (length past)
-Goes log past at clients codes values (Next q) =
-    (r : Record) × Kept (r ∷ past) q clients codes values × ((left : ℕ) → scan log (suc left) at past ≡ scan log left (q .at) (r ∷ past))
+abbrev pub Goes : List ℕ → List Record → ℕ → List ℕ → List ℕ → List ℕ → List ℕ → Step → Type 0
+Goes log past at clients codes values chains (Stop number) = (left : ℕ) → scan log (suc left) at past ≡ refused number (length past)
+Goes log past at clients codes values chains (Next q) =
+    (r : Record) × Kept (r ∷ past) q clients codes values chains × ((left : ℕ) → scan log (suc left) at past ≡ scan log left (q .at) (r ∷ past))
 
-pub record Stepped (log : List ℕ) (index : ℕ) (p : Progress) (clients codes values : List ℕ) (s : Step) (clients' codes' values' : List ℕ) : Type 0 where
-  pub goes : (past : List Record) → Kept past p clients codes values → length past ≡ index → Goes log past (p .at) clients' codes' values' s
+pub record Stepped (log : List ℕ) (index : ℕ) (p : Progress) (clients codes values chains : List ℕ) (s : Step) (clients' codes' values' chains' : List ℕ) : Type 0 where
+  pub goes : (past : List Record) → Kept past p clients codes values chains → length past ≡ index → Goes log past (p .at) clients' codes' values' chains' s
 
 -- All records behind the header have been read, `count` of them: the tables hold them, and they are what the log is read as.
-pub record AllKept (log : List ℕ) (count : ℕ) (p : Progress) (clients codes values : List ℕ) : Type 0 where
+pub record AllKept (log : List ℕ) (count : ℕ) (p : Progress) (clients codes values chains : List ℕ) : Type 0 where
   pub past : List Record
   pub counted : length past ≡ count
-  pub kept : Kept past p clients codes values
+  pub kept : Kept past p clients codes values chains
   pub reads : scan log count headerLength [] ≡ readable (reverse past)
 
 -- They have all been read, or the scan ends with this refusal.
-pub data Passed (log : List ℕ) (count : ℕ) : Pass → List ℕ → List ℕ → List ℕ → Type 0 where
-  through : {p : Progress} {clients codes values : List ℕ} → AllKept log count p clients codes values → Passed log count (Through p) clients codes values
-  stopped : {number index : ℕ} {clients codes values : List ℕ} → scan log count headerLength [] ≡ refused number index → Passed log count (Stopped number index) clients codes values
+pub data Passed (log : List ℕ) (count : ℕ) : Pass → List ℕ → List ℕ → List ℕ → List ℕ → Type 0 where
+  through : {p : Progress} {clients codes values chains : List ℕ} → AllKept log count p clients codes values chains → Passed log count (Through p) clients codes values chains
+  stopped : {number index : ℕ} {clients codes values chains : List ℕ} → scan log count headerLength [] ≡ refused number index → Passed log count (Stopped number index) clients codes values chains
 
 -- This is wrong with bytes that are handed in as one record behind those that the tables hold.
-pub record FaultBehind (bytes : List ℕ) (p : Progress) (clients codes values : List ℕ) (number : ℕ) : Type 0 where
-  pub found : (past : List Record) → Kept past p clients codes values → number ≡ faultBehind past bytes
+pub record FaultBehind (bytes : List ℕ) (p : Progress) (clients codes values chains : List ℕ) (number : ℕ) : Type 0 where
+  pub found : (past : List Record) → Kept past p clients codes values chains → number ≡ faultBehind past bytes
 
 -- what the header of a log says: "1 for under 3 bytes, 2, 3", or the number of records
 abbrev pub headerOf : List ℕ → Header

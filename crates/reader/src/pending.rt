@@ -12,19 +12,19 @@ use table::table::push;
 use table::table::remove;
 
 // The kinds of a call.
-pub const ADD_CALL: u32 = 1;
+pub const ADD_CALL: u16 = 1;
 
-pub const REMOVE_CALL: u32 = 2;
+pub const REMOVE_CALL: u16 = 2;
 
-// A number as a size, where its bound as a u32 is not at hand.
-fn size(x: u32) -> usize
+// A number as a size, where its bound as a u16 is not at hand.
+fn size(x: u16) -> usize
     ensures { λ r. ⌜ r ≡ x ⌝ }
 {
     x as usize
 }
 
 // The kind of a client's pending call, 0 where it has none.
-pub(crate) fn pending_kind(clients: &Table, codes: &Table, count: usize, client: u32) -> u32
+pub(crate) fn pending_kind(clients: &Table, codes: &Table, count: usize, client: u16) -> u16
     requires { ⌜ Fits count (now clients) × Fits count (now codes) ⌝ }
     ensures { λ r. ⌜ r ≡ kindOfFound client (take count (now (clients .entry))) (take count (now (codes .entry))) ⌝ }
 {
@@ -48,11 +48,11 @@ pub(crate) fn earliest_remove(codes: &Table, count: usize, none: usize) -> usize
 }
 
 // The index and the kind of a call as one number.
-fn code_of(index: usize, kind: u32) -> u32
+fn code_of(index: usize, kind: u16) -> u16
     requires { ⌜ (index < maxRecords) × (kind < 4) ⌝ }
     ensures { λ r. ⌜ r ≡ index * 4 + kind ⌝ }
 {
-    (index as u32) * 4 + kind
+    index as u16 * 4 + kind
 }
 
 // Puts a call behind those that are pending.
@@ -60,8 +60,8 @@ pub(crate) fn begin_call(
     clients: &mut Table,
     codes: &mut Table,
     count: usize,
-    client: u32,
-    kind: u32,
+    client: u16,
+    kind: u16,
     index: usize,
 )
     requires { ⌜ (count < maxRecords) × (index < maxRecords) × (kind < 4) × Fits count (now clients) × Fits count (now codes) ⌝ }
@@ -72,7 +72,7 @@ pub(crate) fn begin_call(
 }
 
 // Takes a client's pending call out of the tables, and answers how many are left.
-pub(crate) fn end_call(clients: &mut Table, codes: &mut Table, count: usize, client: u32) -> usize
+pub(crate) fn end_call(clients: &mut Table, codes: &mut Table, count: usize, client: u16) -> usize
     requires { ⌜ Fits count (now clients) × Fits count (now codes) ⌝ }
     ensures { λ left. ⌜ Ended count client (now (clients .entry)) (now (codes .entry)) left (now (clients .exit)) (now (codes .exit)) ⌝ }
 {

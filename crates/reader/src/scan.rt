@@ -4,6 +4,7 @@ ghost use mathlib.Core.Path.{_≡_};
 ghost use mathlib.Core.List.{[]};
 ghost use Prim.Native.Nat.{_≤_, _<_};
 ghost use lib.ListN.{length};
+ghost use Rattle.map.specs.Map.{Linked};
 ghost use Rattle.reader.specs.Log.{headerLength, maxRecords, scan};
 ghost use Rattle.reader.specs.Readable.{asks};
 ghost use Rattle.reader.specs.Feed.{extended};
@@ -17,6 +18,12 @@ use crate::pending::begin_call;
 use crate::pending::earliest_remove;
 use crate::pending::end_call;
 use crate::pending::pending_kind;
+use map::map::Chains;
+use map::map::Keys;
+use map::map::LINKS;
+use map::map::SIZE;
+use map::map::find;
+use map::map::push;
 use record::record::Decoded;
 use record::record::Event;
 use record::record::Record;
@@ -28,7 +35,6 @@ use record::refusal::TICK_FELL;
 use record::refusal::WRONG_BYTES;
 use table::table::Table;
 use table::table::contains;
-use table::table::push;
 
 // How far a scan has come: the offset of the next record, the last tick, how many calls are pending, how many values were
 // added and how many operations were called.
@@ -66,7 +72,7 @@ pub enum Survey {
 }
 
 // The kind of the call that has to be pending when an event comes: for a return that of its operation, for a call none, 0.
-fn asks(event: Event) -> u32
+fn asks(event: Event) -> u16
     ensures { λ kind. ⌜ kind ≡ asks event ⌝ }
 {
     match event {
@@ -79,14 +85,21 @@ fn asks(event: Event) -> u32
 
 // Refusals 6 to 9: what is wrong with a record behind those that the tables hold, 0 for nothing. It goes by what the event asks for:
 // the compiler would make a jump table of a match on the four events.
-fn fault(r: Record, p: Progress, clients: &Table, codes: &Table, values: &Table) -> u32
-    requires { ⌜ Room p (now clients) (now codes) (now values) ⌝ }
+fn fault(
+    r: Record,
+    p: Progress,
+    clients: &Table,
+    codes: &Table,
+    values: &Keys,
+    chains: &Chains,
+) -> u32
+    requires { ⌜ Room p (now clients) (now codes) (now values) (now chains) ⌝ }
     ensures { λ f. ⌜ f ≡ faultIn r p (now (clients .entry)) (now (codes .entry)) (now (values .entry)) ⌝ }
 {
     if r.tick < p.tick {
         return TICK_FELL;
     }
-    let client = r.client as u32;
+    let client = r.client;
     let pending = p.pending;
     let added = p.added;
     let event = r.event;
@@ -102,7 +115,7 @@ fn fault(r: Record, p: Progress, clients: &Table, codes: &Table, values: &Table)
     }
     match event {
         Event::CallAdd(value) => {
-            if contains(values, added, value) {
+            if find(values, chains, added, value) < added {
                 return ADDED_TWICE;
             }
             0
@@ -119,19 +132,20 @@ fn admit(
     p: Progress,
     clients: &mut Table,
     codes: &mut Table,
-    values: &mut Table,
+    values: &mut Keys,
+    chains: &mut Chains,
 ) -> Progress
-    requires { ⌜ (index < maxRecords) × Room p (now clients) (now codes) (now values) ⌝ }
-    ensures { λ q. ⌜ Admitted r next index p (now (clients .entry)) (now (codes .entry)) (now (values .entry)) q (now (clients .exit)) (now (codes .exit)) (now (values .exit)) ⌝ }
+    requires { ⌜ (index < maxRecords) × Room p (now clients) (now codes) (now values) (now chains) ⌝ }
+    ensures { λ q. ⌜ Admitted r next index p (now (clients .entry)) (now (codes .entry)) (now (values .entry)) (now (chains .entry)) q (now (clients .exit)) (now (codes .exit)) (now (values .exit)) (now (chains .exit)) ⌝ }
 {
-    let client = r.client as u32;
+    let client = r.client;
     let pending = p.pending;
     let added = p.added;
     let event = r.event;
     match event {
         Event::CallAdd(value) => {
             begin_call(clients, codes, pending, client, ADD_CALL, index);
-            push(values, added, value);
+            push(values, chains, added, value);
             Progress {
                 at: next,
                 tick: r.tick,
@@ -167,20 +181,21 @@ fn read_record(
     p: Progress,
     clients: &mut Table,
     codes: &mut Table,
-    values: &mut Table,
+    values: &mut Keys,
+    chains: &mut Chains,
 ) -> Step
-    requires { ⌜ (index < maxRecords) × Room p (now clients) (now codes) (now values) ⌝ }
-    ensures { λ s. ⌜ Stepped (now (log .entry)) index p (now (clients .entry)) (now (codes .entry)) (now (values .entry)) s (now (clients .exit)) (now (codes .exit)) (now (values .exit)) ⌝ }
+    requires { ⌜ (index < maxRecords) × Room p (now clients) (now codes) (now values) (now chains) ⌝ }
+    ensures { λ s. ⌜ Stepped (now (log .entry)) index p (now (clients .entry)) (now (codes .entry)) (now (values .entry)) (now (chains .entry)) s (now (clients .exit)) (now (codes .exit)) (now (values .exit)) (now (chains .exit)) ⌝ }
 {
     let at = p.at;
     match decode_at(log, at) {
         Decoded::Malformed(number) => Step::Stop(number),
         Decoded::Found { record, next } => {
-            let number = fault(record, p, clients, codes, values);
+            let number = fault(record, p, clients, codes, values, chains);
             if number != 0 {
                 return Step::Stop(number);
             }
-            Step::Next(admit(record, next, index, p, clients, codes, values))
+            Step::Next(admit(record, next, index, p, clients, codes, values, chains))
         }
     }
 }
@@ -191,10 +206,11 @@ fn read_all(
     count: usize,
     clients: &mut Table,
     codes: &mut Table,
-    values: &mut Table,
+    values: &mut Keys,
+    chains: &mut Chains,
 ) -> Pass
-    requires { ⌜ (count ≤ maxRecords) × (length (now clients) ≡ maxRecords) × (length (now codes) ≡ maxRecords) × (length (now values) ≡ maxRecords) ⌝ }
-    ensures { λ r. ⌜ Passed (now (log .entry)) count r (now (clients .exit)) (now (codes .exit)) (now (values .exit)) ⌝ }
+    requires { ⌜ (count ≤ maxRecords) × (length (now clients) ≡ maxRecords) × (length (now codes) ≡ maxRecords) × Linked (now values) (now chains) 0 ⌝ }
+    ensures { λ r. ⌜ Passed (now (log .entry)) count r (now (clients .exit)) (now (codes .exit)) (now (values .exit)) (now (chains .exit)) ⌝ }
 {
     let mut p = Progress {
         at: HEADER,
@@ -205,7 +221,7 @@ fn read_all(
     };
     let mut i = 0;
     while i < count {
-        match read_record(log, i, p, clients, codes, values) {
+        match read_record(log, i, p, clients, codes, values, chains) {
             Step::Stop(number) => {
                 return Pass::Stopped { number, index: i };
             }
@@ -230,10 +246,18 @@ pub(crate) fn read_records(log: &[u8], count: usize) -> Survey
     requires { ⌜ count ≤ maxRecords ⌝ }
     ensures { λ r. ⌜ r ≡ surveyed (scan (now (log .entry)) count headerLength []) ⌝ }
 {
-    let mut clients = [0u32; MAX_RECORDS];
-    let mut codes = [0u32; MAX_RECORDS];
-    let mut values = [0u32; MAX_RECORDS];
-    match read_all(log, count, &mut clients, &mut codes, &mut values) {
+    let mut clients = [0u16; MAX_RECORDS];
+    let mut codes = [0u16; MAX_RECORDS];
+    let mut values = [0u32; SIZE];
+    let mut chains = [0u16; LINKS];
+    match read_all(
+        log,
+        count,
+        &mut clients,
+        &mut codes,
+        &mut values,
+        &mut chains,
+    ) {
         Pass::Stopped { number, index } => Survey::Broken { number, index },
         Pass::Through(p) => {
             let pending = p.pending;
@@ -247,9 +271,16 @@ pub(crate) fn read_records(log: &[u8], count: usize) -> Survey
 }
 
 // What is wrong with bytes that are handed in as one record behind those that the tables hold, 0 for nothing.
-fn fault_behind(bytes: &[u8], p: Progress, clients: &Table, codes: &Table, values: &Table) -> u32
-    requires { ⌜ Room p (now clients) (now codes) (now values) ⌝ }
-    ensures { λ f. ⌜ FaultBehind (now (bytes .entry)) p (now (clients .entry)) (now (codes .entry)) (now (values .entry)) f ⌝ }
+fn fault_behind(
+    bytes: &[u8],
+    p: Progress,
+    clients: &Table,
+    codes: &Table,
+    values: &Keys,
+    chains: &Chains,
+) -> u32
+    requires { ⌜ Room p (now clients) (now codes) (now values) (now chains) ⌝ }
+    ensures { λ f. ⌜ FaultBehind (now (bytes .entry)) p (now (clients .entry)) (now (codes .entry)) (now (values .entry)) (now (chains .entry)) f ⌝ }
 {
     if bytes.len() == 0 {
         return WRONG_BYTES;
@@ -259,7 +290,7 @@ fn fault_behind(bytes: &[u8], p: Progress, clients: &Table, codes: &Table, value
     }
     match decode_at(bytes, 0) {
         Decoded::Malformed(number) => number,
-        Decoded::Found { record, next: _ } => fault(record, p, clients, codes, values),
+        Decoded::Found { record, next: _ } => fault(record, p, clients, codes, values, chains),
     }
 }
 
@@ -268,10 +299,18 @@ pub(crate) fn extend_records(log: &[u8], count: usize, bytes: &[u8]) -> Extensio
     requires { ⌜ count ≤ maxRecords ⌝ }
     ensures { λ r. ⌜ r ≡ extended (scan (now (log .entry)) count headerLength []) (now (bytes .entry)) ⌝ }
 {
-    let mut clients = [0u32; MAX_RECORDS];
-    let mut codes = [0u32; MAX_RECORDS];
-    let mut values = [0u32; MAX_RECORDS];
-    match read_all(log, count, &mut clients, &mut codes, &mut values) {
+    let mut clients = [0u16; MAX_RECORDS];
+    let mut codes = [0u16; MAX_RECORDS];
+    let mut values = [0u32; SIZE];
+    let mut chains = [0u16; LINKS];
+    match read_all(
+        log,
+        count,
+        &mut clients,
+        &mut codes,
+        &mut values,
+        &mut chains,
+    ) {
         Pass::Stopped {
             number: _,
             index: _,
@@ -280,7 +319,7 @@ pub(crate) fn extend_records(log: &[u8], count: usize, bytes: &[u8]) -> Extensio
             if MAX_RECORDS <= count {
                 return Extension::Full;
             }
-            let number = fault_behind(bytes, p, &clients, &codes, &values);
+            let number = fault_behind(bytes, p, &clients, &codes, &values, &chains);
             if number != 0 {
                 return Extension::Faulty {
                     number,

@@ -7,7 +7,7 @@ use mathlib.Core.List.{List}
 use lib.ListN.{length, getD, set, replicate}
 use lib.Seq.{getD-set-same, getD-set-other}
 use Rattle.reader.specs.Log.{maxRecords}
-use Rattle.history.proofs.Basics.{zeros}
+use Rattle.table.proofs.Lists.{zeros}
 use Rattle.replay.specs.Trial.{total, Unmarked, Room}
 use Rattle.replay.specs.declared.order.Progress.{Progress}
 

@@ -1,72 +1,26 @@
 -- The gaps that values cover.
 use Prim.Native.Nat.{ℕ, _+_, _-_, _≤_, _<_}
 use native.Mathlib.Omega.{arith}
-use native.Mathlib.Decide.{decLt}
-use mathlib.Core.Path.{_≡_, refl, sym, _∙_}
+use mathlib.Core.Path.{_≡_, refl, _∙_}
 use mathlib.Core.Logic.{_⊎_, inl, inr}
 use mathlib.Core.List.{List}
 use lib.ListN.{length, getD, set, length-set}
 use lib.Seq.{getD-set-other}
 use Rattle.reader.specs.Log.{maxRecords}
-use Rattle.history.specs.History.{History, add}
+use Rattle.history.specs.History.{History}
 use Rattle.history.proofs.Basics.{up-to}
-use Rattle.violations.specs.Violations.{Is}
-use Rattle.matching.specs.Matching.{Cleared}
-use Rattle.matching.specs.Reaches.{reachAt}
+use Rattle.matching.specs.Opened.{OpenedAt, Opened}
+use Rattle.matching.proofs.Numbers.{Larger}
+use Rattle.matching.proofs.Opening.{Highest, highest-starts, highest-more}
 use Rattle.matching.proofs.Storing.{entry-stored}
-use Rattle.search.specs.Gaps.{CoversIn, OpenedAt, Opened, LastUncovered, Swept}
-
--- r is the larger of a and b
-abbrev pub Larger : ℕ → ℕ → ℕ → Type 0
-Larger a b r = (a ≤ r) × (b ≤ r) × ((r ≡ a) ⊎ (r ≡ b))
-
--- no value is opened in a new table
-pub opened-none : (h : History) (reach : List ℕ) {gaps : List ℕ} → Cleared gaps → Opened h reach 0 gaps
-opened-none h reach cleared = record {
-  sized = cleared .sized;
-  opened = λ g l. record { over = λ a m. absurd (omega arith); met = λ p. absurd (omega (arith, cleared .zero g)) };
-}
-
--- an operation that opens nothing at a position leaves it as it is
-opened-at-other : {h : History} {reach : List ℕ} {n g x : ℕ} → OpenedAt h reach n g x → (Is h add n → h .ret n ≡ g → ⊥) → OpenedAt h reach (n + 1) g x
-opened-at-other {h} {reach} {g = g} {x = x} at other = record {
-  over = up-to {P = λ a. Is h add a → h .ret a ≡ g → reachAt reach a ≤ x} (at .over) (λ is e. absurd (other is e));
-  met = at .met;
-}
-
-module _ {h : History} {reach : List ℕ} {n : ℕ} {gaps : List ℕ} (opened : Opened h reach n gaps) where
-  -- an operation that is no add, or is pending, opens nothing
-  pub opened-other : (Is h add n → h .ret n < h .end → ⊥) → Opened h reach (n + 1) gaps
-  opened-other other = record { sized = opened .sized; opened = λ g l. opened-at-other (opened .opened g l) (λ is e. other is (omega arith)) }
-
-  -- an add that has returned opens its value at its return
-  pub opened-add : h .end ≤ maxRecords → Is h add n → h .ret n < h .end → {x : ℕ} → Larger (getD gaps (h .ret n) 0) (reachAt reach n) x
-      → Opened h reach (n + 1) (set gaps (h .ret n) x)
-  opened-add short is returned {x} (old, new, one) = record {
-    sized = simp length-set (opened .sized);
-    opened = λ g l. entry-stored (OpenedAt h reach (n + 1) g) gaps (h .ret n) x g (omega (arith, opened .sized)) (λ e. rw e here) (λ d. opened-at-other (opened .opened g l) (λ i e. d (sym e)));
-  }
-    where
-      at : OpenedAt h reach n (h .ret n) (getD gaps (h .ret n) 0)
-      at = opened .opened (h .ret n) returned
-
-      met : (x ≡ getD gaps (h .ret n) 0) ⊎ (x ≡ reachAt reach n) → 0 < x → (a : ℕ) × Is h add a × (h .ret a ≡ h .ret n) × (reachAt reach a ≡ x)
-      met (inl e) p = let (a, is, r, f) = at .met (omega arith) in (a, is, r, f ∙ sym e)
-      met (inr e) p = (n, is, refl, sym e)
-
-      here : OpenedAt h reach (n + 1) (h .ret n) x
-      here = record {
-        over = up-to {P = λ a. Is h add a → h .ret a ≡ h .ret n → reachAt reach a ≤ x} (λ a l i e. omega (arith, at .over a l i e)) (λ i e. new);
-        met = met one;
-      }
+use Rattle.search.specs.Gaps.{CoversIn, LastUncovered, Swept}
 
 -- The sweep has come to position g, for the values of a history.
 pub record Sweeping (h : History) (reach : List ℕ) (g furthest last : ℕ) (gaps : List ℕ) : Type 0 where
   -- the entries below g are those of the table of gaps
   pub lasts : (f : ℕ) → f < g → LastUncovered h reach f (getD gaps f 0)
   -- furthest is how far a value reaches at most whose add returns below g
-  pub over : (a : ℕ) → Is h add a → h .ret a < g → reachAt reach a ≤ furthest
-  pub met : 0 < furthest → (a : ℕ) × Is h add a × (h .ret a < g) × (reachAt reach a ≡ furthest)
+  pub highest : Highest h reach g furthest
   -- last is 1 above the last gap below g that no value covers
   pub within : last ≤ g
   pub uncovered : 0 < last → (a : ℕ) → CoversIn h reach a (last - 1) → ⊥
@@ -76,8 +30,7 @@ pub record Sweeping (h : History) (reach : List ℕ) (g furthest last : ℕ) (ga
 sweeping-starts : (h : History) (reach gaps : List ℕ) → Sweeping h reach 0 0 0 gaps
 sweeping-starts h reach gaps = record {
   lasts = λ f l. absurd (omega arith);
-  over = λ a is l. absurd (omega arith);
-  met = λ p. absurd (omega arith);
+  highest = highest-starts h reach;
   within = omega arith;
   uncovered = λ p. absurd (omega arith);
   covered = λ f b l. absurd (omega arith);
@@ -86,25 +39,13 @@ sweeping-starts h reach gaps = record {
 -- one position more: x is how far a value reaches that is opened at g, and y how far one does that is opened up to there
 module _ {h : History} {reach : List ℕ} {g furthest last : ℕ} {gaps : List ℕ} (s : Sweeping h reach g furthest last gaps) (in-gaps : g < length gaps)
     {x y : ℕ} (at : OpenedAt h reach (h .count) g x) (larger : Larger furthest x y) where
-  over' : (a : ℕ) → Is h add a → h .ret a < g + 1 → reachAt reach a ≤ y
-  over' a is l = go (decLt (h .ret a) g)
-    where
-      go : Dec (h .ret a < g) → reachAt reach a ≤ y
-      go (yes b) = omega (arith, larger .0, s .over a is b)
-      go (no b) = omega (arith, larger .1, at .over a (is .known) is (omega arith))
-
-  met' : 0 < y → (a : ℕ) × Is h add a × (h .ret a < g + 1) × (reachAt reach a ≡ y)
-  met' p = go (larger .2)
-    where
-      go : (y ≡ furthest) ⊎ (y ≡ x) → (a : ℕ) × Is h add a × (h .ret a < g + 1) × (reachAt reach a ≡ y)
-      go (inl e) = let (a, is, l, f) = s .met (omega arith) in (a, is, omega arith, f ∙ sym e)
-      go (inr e) = let (a, is, r, f) = at .met (omega arith) in (a, is, omega arith, f ∙ sym e)
+  highest' : Highest h reach (g + 1) y
+  highest' = highest-more (s .highest) at larger
 
   noted : {last' : ℕ} → LastUncovered h reach g last' → Sweeping h reach (g + 1) y last' (set gaps g last')
   noted {last'} now = record {
     lasts = λ f l. entry-stored (LastUncovered h reach f) gaps g last' f in-gaps (λ e. rw e now) (λ d. s .lasts f (omega arith));
-    over = over';
-    met = met';
+    highest = highest';
     within = now .within;
     uncovered = now .uncovered;
     covered = λ f b l. now .covered f b (omega arith);
@@ -114,7 +55,7 @@ module _ {h : History} {reach : List ℕ} {g furthest last : ℕ} {gaps : List �
   sweeping-uncovered : y ≤ g → Sweeping h reach (g + 1) y (g + 1) (set gaps g (g + 1))
   sweeping-uncovered short = noted (record {
     within = omega arith;
-    uncovered = λ p a covers. omega (arith, covers .until, over' a (covers .adds) (omega (arith, covers .from)));
+    uncovered = λ p a covers. omega (arith, covers .until, highest' .over a (covers .adds) (omega (arith, covers .from)));
     covered = λ f b l. absurd (omega arith);
   })
 
@@ -127,7 +68,7 @@ module _ {h : History} {reach : List ℕ} {g furthest last : ℕ} {gaps : List �
   })
     where
       here : last ≤ g → (a : ℕ) × CoversIn h reach a g
-      here b = let (a, is, l, e) = met' (omega arith) in (a, record { adds = is; from = omega arith; until = omega arith })
+      here b = let (a, is, l, e) = highest' .met (omega arith) in (a, record { adds = is; from = omega arith; until = omega arith })
 
 -- The sweep has come to position g, whatever history the table that it began with is of.
 pub record SweptTo (end : ℕ) (gaps₀ gaps : List ℕ) (furthest last g : ℕ) : Type 0 where
@@ -148,7 +89,7 @@ module _ {end : ℕ} {gaps₀ gaps : List ℕ} {furthest last g : ℕ} (swept : 
     below = omega arith;
     sized = simp length-set (swept .sized);
     rest = λ f m. getD-set-other gaps g f last' 0 (λ e. omega arith) ∙ swept .rest f (omega arith);
-    sweeping = λ h reach e opened. step h reach (swept .sweeping h reach e opened) (rw (swept .rest g (omega arith)) (opened .opened g (omega arith))) by;
+    sweeping = λ h reach e opened. step h reach (swept .sweeping h reach e opened) (rw (swept .rest g (omega arith)) (opened .highest g (omega arith))) by;
   }
     where
       in-gaps : g < length gaps

@@ -10,7 +10,7 @@ use lib.ListN.{length, getD}
 use lib.Seq.{slice, slice-empty, slice-cons, length-slice}
 use Rattle.history.specs.History.{History, add, remove, emptyRemove, noKind}
 use Rattle.history.specs.Linearization.{Listed}
-use Rattle.violations.specs.Violations.{Is, Removed, Reaches, removed, never}
+use Rattle.violations.specs.Violations.{Is, Removed}
 use Rattle.violations.specs.Greedy.{Due, Left, Enabled, Placeable}
 use Rattle.violations.specs.Found.{Safe, Serves, enqueues, dequeues, meets-empty}
 use Rattle.violations.proofs.Operations.{removed?}
@@ -18,17 +18,10 @@ use Rattle.violations.proofs.Greedy.{left?}
 use Rattle.violations.proofs.Lists.{listed-here}
 use Rattle.matching.specs.Held.{Held}
 use Rattle.matching.specs.Reaches.{reachAt, Reaching}
+use Rattle.matching.proofs.Reaching.{reach-within}
 use Rattle.search.specs.Bounds.{limitAt, Least}
 use Rattle.search.specs.Searching.{gapAt, HaveGaps, Limits, Waits, LeastOf, queueIn, Cap, Fit, adds, removes, empties, QueueRoom}
 use Rattle.search.specs.declared.search.Stand.{Stand}
-
--- no value reaches beyond the end
-reach-within : {h : History} {reach : List ℕ} → Held h → Reaching h reach → {a : ℕ} → Is h add a → reachAt reach a ≤ h .end
-reach-within {h} {reach} held reaching {a} is = go (reaching .reaches a is)
-  where
-    go : Reaches h a (reachAt reach a) → reachAt reach a ≤ h .end
-    go (removed r out e) = let known : r < h .count = out .removes .known in omega (arith, held .lawful .spans r known, held .lawful .ends r known)
-    go (never n e) = omega arith
 
 -- whether an operation of a lawful history is an add, a remove or an empty remove
 pub data Kinds (h : History) (o : ℕ) : Type 0 where

@@ -1,19 +1,14 @@
 -- The limits that operations set, and the least of them from each operation on.
 use Prim.Native.Nat.{ℕ, _+_, _-_, _≤_, _<_}
 use native.Mathlib.Omega.{arith}
-use native.Mathlib.Decide.{ℕ-discrete}
-use mathlib.Core.Path.{_≡_, refl, sym, _∙_}
-use mathlib.Core.Logic.{_⊎_, inl, inr}
+use mathlib.Core.Path.{_≡_}
 use mathlib.Core.List.{List}
 use lib.ListN.{length, getD, set, length-set}
 use lib.Seq.{getD-set-same}
 use Rattle.reader.specs.Log.{maxRecords}
+use Rattle.matching.proofs.Numbers.{Smaller, least-starts, least-back}
 use Rattle.matching.proofs.Storing.{entry-stored, filled-more}
 use Rattle.search.specs.Bounds.{limitBy, limitAt, LimitTable, Least, BoundTable}
-
--- r is the smaller of a and b
-abbrev pub Smaller : ℕ → ℕ → ℕ → Type 0
-Smaller a b r = (r ≤ a) × (r ≤ b) × ((r ≡ a) ⊎ (r ≡ b))
 
 -- one limit more
 pub limits-more : {n end : ℕ} {table partner gaps limit : List ℕ} → LimitTable n end table partner gaps limit → {x : ℕ} → n < maxRecords → x ≡ limitBy table end partner gaps n
@@ -24,26 +19,13 @@ limits-more {limit = limit} t l e = record { sized = simp length-set (t .sized);
 pub bounds-none : (count end : ℕ) (limit bound : List ℕ) → count ≤ maxRecords → length bound ≡ maxRecords + 1 → BoundTable count end limit count (set bound count (end + 1))
 bounds-none count end limit bound few sized = record {
   sized = simp length-set sized;
-  least = λ o l m. let e : o ≡ count = omega arith in rw (e, getD-set-same bound count (end + 1) 0 (omega arith)) (record { below = λ p b t. absurd (omega arith); met = inl refl });
+  least = λ o l m. let e : o ≡ count = omega arith in rw (e, getD-set-same bound count (end + 1) 0 (omega arith)) least-starts;
 }
-
--- the least limit from one operation more on
-least-more : {count end : ℕ} {limit : List ℕ} {n x y : ℕ} → 0 < n → n ≤ count → Least count end limit n x → Smaller (limitAt limit (n - 1)) x y → Least count end limit (n - 1) y
-least-more {count} {end} {limit} {n} {x} {y} some within least (here, there, one) = record { below = λ o b l. below o b l (ℕ-discrete o (n - 1)); met = met one (least .met) }
-  where
-    below : (o : ℕ) → n - 1 ≤ o → o < count → Dec (o ≡ n - 1) → y ≤ limitAt limit o
-    below o b l (yes e) = rw e here
-    below o b l (no d) = omega (arith, least .below o (omega arith) l)
-
-    met : (y ≡ limitAt limit (n - 1)) ⊎ (y ≡ x) → (x ≡ end + 1) ⊎ ((o : ℕ) × (n ≤ o) × (o < count) × (limitAt limit o ≡ x)) → (y ≡ end + 1) ⊎ ((o : ℕ) × (n - 1 ≤ o) × (o < count) × (limitAt limit o ≡ y))
-    met (inl e) old = inr (n - 1, omega arith, omega arith, sym e)
-    met (inr e) (inl f) = inl (e ∙ f)
-    met (inr e) (inr (o, b, l, f)) = inr (o, omega arith, l, f ∙ sym e)
 
 -- one bound more
 pub bounds-more : {count end : ℕ} {limit : List ℕ} {n : ℕ} {bound : List ℕ} {x : ℕ} → count ≤ maxRecords → BoundTable count end limit n bound → 0 < n → n ≤ count
     → Smaller (limitAt limit (n - 1)) (getD bound n 0) x → BoundTable count end limit (n - 1) (set bound (n - 1) x)
 bounds-more {count} {end} {limit} {n} {bound} {x} few t some within smaller = record {
   sized = simp length-set (t .sized);
-  least = λ o l m. entry-stored (Least count end limit o) bound (n - 1) x o (omega (arith, t .sized)) (λ e. rw e (least-more some within (t .least n (omega arith) within) smaller)) (λ d. t .least o (omega arith) m);
+  least = λ o l m. entry-stored (Least count end limit o) bound (n - 1) x o (omega (arith, t .sized)) (λ e. rw e (least-back some within (t .least n (omega arith) within) smaller)) (λ d. t .least o (omega arith) m);
 }

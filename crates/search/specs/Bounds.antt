@@ -2,7 +2,6 @@
 -- understood without this file.
 use Prim.Native.Nat.{ℕ, _+_, _-_, _≤_, _<_}
 use mathlib.Core.Path.{_≡_}
-use mathlib.Core.Logic.{_⊎_}
 use mathlib.Core.List.{List}
 use lib.ListN.{length, getD}
 use lib.Dec.{eqb}
@@ -10,6 +9,7 @@ use Rattle.record.specs.Choice.{if_then_else_}
 use Rattle.reader.specs.Log.{maxRecords}
 use Rattle.history.specs.History.{add, emptyRemove}
 use Rattle.history.specs.Table.{kindAt, returnAt}
+use Rattle.matching.specs.Answers.{LeastFrom}
 use Rattle.matching.specs.Matching.{partnerAt}
 
 -- the limit that an operation sets
@@ -27,9 +27,8 @@ pub record LimitTable (count end : ℕ) (table partner gaps limit : List ℕ) : 
   pub limits : (o : ℕ) → o < count → limitAt limit o ≡ limitBy table end partner gaps o
 
 -- x is the least limit of the operations from n on, the end and 1 if they set none
-pub record Least (count end : ℕ) (limit : List ℕ) (n x : ℕ) : Type 0 where
-  pub below : (o : ℕ) → n ≤ o → o < count → x ≤ limitAt limit o
-  pub met : (x ≡ end + 1) ⊎ ((o : ℕ) × (n ≤ o) × (o < count) × (limitAt limit o ≡ x))
+abbrev pub Least : ℕ → ℕ → List ℕ → ℕ → ℕ → Type 0
+Least count end limit n x = LeastFrom (limitAt limit) (end + 1) count n x
 
 -- the table of bounds from operation n on
 pub record BoundTable (count end : ℕ) (limit : List ℕ) (n : ℕ) (bound : List ℕ) : Type 0 where

@@ -7,6 +7,7 @@ use lib.ListN.{length, getD}
 use Rattle.reader.specs.Log.{maxRecords}
 use Rattle.history.specs.History.{History, add}
 use Rattle.violations.specs.Violations.{Is}
+use Rattle.matching.specs.Opened.{Opened}
 use Rattle.matching.specs.Reaches.{reachAt}
 
 -- the value of add a covers gap g, as the table of reaches has it
@@ -14,15 +15,6 @@ pub record CoversIn (h : History) (reach : List ℕ) (a g : ℕ) : Type 0 where
   pub adds : Is h add a
   pub from : h .ret a ≤ g
   pub until : g < reachAt reach a
-
--- x is the furthest that a value of the first n operations reaches whose add returns at position g; 0 if there is none
-pub record OpenedAt (h : History) (reach : List ℕ) (n g x : ℕ) : Type 0 where
-  pub over : (a : ℕ) → a < n → Is h add a → h .ret a ≡ g → reachAt reach a ≤ x
-  pub met : 0 < x → (a : ℕ) × Is h add a × (h .ret a ≡ g) × (reachAt reach a ≡ x)
-
-pub record Opened (h : History) (reach : List ℕ) (n : ℕ) (gaps : List ℕ) : Type 0 where
-  pub sized : length gaps ≡ maxRecords
-  pub opened : (g : ℕ) → g < h .end → OpenedAt h reach n g (getD gaps g 0)
 
 -- x is 1 above the last gap up to g that no value covers, or 0 if there is none
 pub record LastUncovered (h : History) (reach : List ℕ) (g x : ℕ) : Type 0 where

@@ -6,30 +6,11 @@ ghost use Rattle.reader.specs.Log.{maxRecords};
 ghost use Rattle.history.specs.Table.{tabled};
 ghost use Rattle.matching.specs.Held.{Held};
 ghost use Rattle.matching.specs.Matching.{Cleared};
-ghost use Rattle.search.specs.Gaps.{Opened, Swept, Uncovered};
-use history::operations::ADD;
+ghost use Rattle.search.specs.Gaps.{Swept, Uncovered};
 use history::operations::Operations;
-use history::operations::kind_of;
-use history::operations::return_of;
+use matching::opened::open_values;
 use matching::values::Numbers;
 use table::number::max;
-
-// Notes at the position of each add's return how far its value reaches, the furthest where several return.
-fn open_gaps(table: &Operations, count: usize, end: usize, reach: &Numbers, gaps: &mut Numbers)
-    requires { ⌜ Held (tabled count end (now table)) × (length (now reach) ≡ maxRecords) × Cleared (now gaps) ⌝ }
-    ensures { λ _. ⌜ Opened (tabled count end (now (table .entry))) (now (reach .entry)) count (now (gaps .exit)) ⌝ }
-{
-    let mut a = 0;
-    while a < count {
-        if kind_of(table, a) == ADD {
-            let returned = return_of(table, a) as usize;
-            if returned < end {
-                gaps[returned] = max(gaps[returned], reach[a]);
-            }
-        }
-        a += 1;
-    }
-}
 
 // Fills for each position a number 1 above the last gap up to there that no value covers, or 0 if there is none. A gap is covered if a value
 // whose add has returned reaches beyond it.
@@ -50,7 +31,7 @@ fn sweep(end: usize, gaps: &mut Numbers)
     }
 }
 
-// Fills the table of gaps.
+// Fills the table of gaps: how far values reach is noted where their adds return, and swept.
 pub(crate) fn fill_gaps(
     table: &Operations,
     count: usize,
@@ -61,6 +42,6 @@ pub(crate) fn fill_gaps(
     requires { ⌜ Held (tabled count end (now table)) × (length (now reach) ≡ maxRecords) × Cleared (now gaps) ⌝ }
     ensures { λ _. ⌜ Uncovered (tabled count end (now (table .entry))) (now (reach .entry)) end (now (gaps .exit)) ⌝ }
 {
-    open_gaps(table, count, end, reach, gaps);
+    open_values(table, count, end, reach, gaps);
     sweep(end, gaps);
 }

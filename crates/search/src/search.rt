@@ -27,6 +27,7 @@ use history::operations::value_of;
 use matching::values::Numbers;
 use reader::format::MAX_RECORDS;
 use table::number::min;
+use table::table::Table;
 use table::table::push;
 use table::table::remove;
 
@@ -59,7 +60,7 @@ fn is_due(table: &Operations, count: usize, end: usize, reach: &Numbers, o: usiz
 }
 
 // The least return of the operations that wait, the end if none does.
-fn least_return(table: &Operations, count: usize, end: usize, waiting: &Numbers, n: usize) -> u32
+fn least_return(table: &Operations, count: usize, end: usize, waiting: &Table, n: usize) -> u32
     requires { ⌜ Held (tabled count end (now table)) × (n ≤ maxRecords) × (length (now waiting) ≡ maxRecords) × ((o : ℕ) → Listed (take n (now waiting)) o → o < count) ⌝ }
     ensures { λ r. ⌜ LeastReturn (tabled count end (now (table .entry))) (take n (now (waiting .entry))) r ⌝ }
 {
@@ -91,7 +92,7 @@ fn admit_next(
     end: usize,
     reach: &Numbers,
     a: Admission,
-    waiting: &mut Numbers,
+    waiting: &mut Table,
 ) -> Admission
     requires { ⌜ Held (tabled count end (now table)) × Reaching (tabled count end (now table)) (now reach) × Room (tabled count end (now table)) (a .next) (a .waiting) (now waiting) × (a .next < count) × (callAt (now table) (a .next) < a .least) ⌝ }
     ensures { λ b. ⌜ AdmittedOne (tabled count end (now (table .entry))) a (now (waiting .entry)) b (now (waiting .exit)) ⌝ }
@@ -104,7 +105,7 @@ fn admit_next(
             least: a.least,
         };
     }
-    push(waiting, a.waiting, next as u32);
+    push(waiting, a.waiting, next as u16);
     Admission {
         next: next + 1,
         waiting: a.waiting + 1,
@@ -119,7 +120,7 @@ fn admit(
     end: usize,
     reach: &Numbers,
     s: Stand,
-    waiting: &mut Numbers,
+    waiting: &mut Table,
 ) -> Stand
     requires { ⌜ Held (tabled count end (now table)) × Reaching (tabled count end (now table)) (now reach) × Room (tabled count end (now table)) (s .next) (s .waiting) (now waiting) ⌝ }
     ensures { λ t. ⌜ Admitted (tabled count end (now (table .entry))) s (now (waiting .entry)) t (now (waiting .exit)) ⌝ }
@@ -142,7 +143,7 @@ fn admit(
 }
 
 // The least limit of the operations that are left: of those that wait, and of those that are not enabled yet.
-fn cap_of(limit: &Numbers, bound: &Bounds, waiting: &Numbers, n: usize, next: usize) -> u32
+fn cap_of(limit: &Numbers, bound: &Bounds, waiting: &Table, n: usize, next: usize) -> u32
     requires { ⌜ (next ≤ maxRecords) × (n ≤ maxRecords) × (length (now waiting) ≡ maxRecords) × ((o : ℕ) → Listed (take n (now waiting)) o → o < maxRecords) ⌝ }
     ensures { λ r. ⌜ LeastOf (limitAt (now (limit .entry))) (getD (now (bound .entry)) next 0) (take n (now (waiting .entry))) r ⌝ }
 {
@@ -161,7 +162,7 @@ fn fits(
     count: usize,
     end: usize,
     reach: &Numbers,
-    queue: &Numbers,
+    queue: &Table,
     s: Stand,
     cap: u32,
     o: usize,
@@ -191,8 +192,8 @@ fn first_fit(
     count: usize,
     end: usize,
     reach: &Numbers,
-    queue: &Numbers,
-    waiting: &Numbers,
+    queue: &Table,
+    waiting: &Table,
     s: Stand,
     cap: u32,
 ) -> usize
@@ -211,7 +212,7 @@ fn first_fit(
 }
 
 // Runs an operation of this kind on the queue: an add goes to its back, a remove takes its front.
-fn serve(kind: u32, o: u32, s: Stand, queue: &mut Numbers) -> Stand
+fn serve(kind: u32, o: u16, s: Stand, queue: &mut Table) -> Stand
     requires { ⌜ (s .head ≤ s .tail) × (s .tail < maxRecords) × (1 ≤ s .waiting) × (s .placed < maxRecords) × (length (now queue) ≡ maxRecords) ⌝ }
     ensures { λ t. ⌜ Queues kind o s (now (queue .entry)) t (now (queue .exit)) ⌝ }
 {
@@ -251,16 +252,17 @@ fn place(
     end: usize,
     s: Stand,
     i: usize,
-    waiting: &mut Numbers,
-    queue: &mut Numbers,
+    waiting: &mut Table,
+    queue: &mut Table,
     list: &mut Numbers,
 ) -> Stand
     requires { ⌜ Held (tabled count end (now table)) × Room (tabled count end (now table)) (s .next) (s .waiting) (now waiting) × (i < s .waiting) × (s .head ≤ s .tail) × (s .tail ≤ s .placed) × (s .placed < maxRecords) × (length (now queue) ≡ maxRecords) × (length (now list) ≡ maxRecords) ⌝ }
     ensures { λ t. ⌜ Placed (tabled count end (now (table .entry))) s i (now (waiting .entry)) (now (queue .entry)) (now (list .entry)) t (now (waiting .exit)) (now (queue .exit)) (now (list .exit)) ⌝ }
 {
     let o = waiting[i];
+    let placed = s.placed;
     remove(waiting, s.waiting, i);
-    push(list, s.placed, o);
+    list[placed] = o as u32;
     serve(kind_of(table, o as usize), o, s, queue)
 }
 
@@ -277,8 +279,8 @@ pub(crate) fn search(
     requires { ⌜ Held (tabled count end (now table)) × Reaching (tabled count end (now table)) (now reach) × Single (tabled count end (now table)) × Limits (tabled count end (now table)) (now limit) × BoundTable count end (now limit) 0 (now bound) × (length (now list) ≡ maxRecords) ⌝ }
     ensures { λ r. ⌜ Ends (tabled count end (now (table .entry))) (now (reach .entry)) (now (limit .entry)) r (now (list .exit)) ⌝ }
 {
-    let mut waiting = [0u32; MAX_RECORDS];
-    let mut queue = [0u32; MAX_RECORDS];
+    let mut waiting = [0u16; MAX_RECORDS];
+    let mut queue = [0u16; MAX_RECORDS];
     let mut s = Stand {
         next: 0,
         waiting: 0,

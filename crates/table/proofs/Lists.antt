@@ -5,12 +5,18 @@ use native.Mathlib.Numerals.{add-one}
 use mathlib.Core.Path.{_≡_, refl, sym, ap, _∙_}
 use mathlib.Core.Bool.{Bool, true, false}
 use mathlib.Core.List.{List, [], _∷_, _++_, map, map-append, append-assoc, append-nil}
-use lib.ListN.{length, getD, set, take, drop, drop-of-length-le, length-append, length-take, length-drop}
+use lib.ListN.{length, getD, set, replicate, take, drop, drop-of-length-le, length-append, length-take, length-drop, length-set}
 use lib.Seq.{take-suc, take-suc-set, take-set-lt, drop-cons, drop-set-lt, getD-take, length-take-le}
 use lib.Dec.{eqb}
 use borrow.Author.Tests.{eq-eqb, ne-eqb}
 use Rattle.record.specs.Choice.{if_then_else_}
-use Rattle.table.specs.Table.{isIn, position, without}
+use Rattle.table.specs.Table.{tableSize, isIn, position, without, Pushed}
+
+-- an array of zeros
+pub zeros : (n i : ℕ) → _≡_ {A = ℕ} (getD (replicate n 0) i 0) 0
+zeros zero i = refl
+zeros (suc n) zero = refl
+zeros (suc n) (suc i) = zeros n i
 
 -- a number is in two lists, one behind the other, if it is in one of them
 pub isIn-append : (v : ℕ) (xs ys : List ℕ) → isIn v (xs ++ ys) ≡ (if isIn v xs then true else isIn v ys)
@@ -44,6 +50,34 @@ isIn-miss v xs i h n = rw (add-one, take-suc xs i 0 h, isIn-append v (take i xs)
     go true = refl
     go false = refl
 
+-- it is in a list if it stands at an index, and not if it stands at none
+pub isIn-at : (v : ℕ) (xs : List ℕ) (i : ℕ) → i < length xs → getD xs i 0 ≡ v → isIn v xs ≡ true
+unfolding isIn
+isIn-at v [] i l e = absurd (omega arith)
+isIn-at v (x ∷ xs) zero l e = rw (eq-eqb x v e) refl
+isIn-at v (x ∷ xs) (suc i) l e = go (eqb x v) (isIn-at v xs i (omega arith) e)
+  where
+    go : (b : Bool) → isIn v xs ≡ true → (if b then true else isIn v xs) ≡ true
+    go true there = refl
+    go false there = there
+
+pub isIn-nowhere : (v : ℕ) (xs : List ℕ) → ((i : ℕ) → i < length xs → getD xs i 0 ≡ v → ⊥) → isIn v xs ≡ false
+unfolding isIn
+isIn-nowhere v [] none = refl
+isIn-nowhere v (x ∷ xs) none = rw (ne-eqb x v (none 0 (omega arith))) (isIn-nowhere v xs (λ i l. none (suc i) (omega arith)))
+
+-- its position is the first index at which it stands, or the length
+pub position-first : (x : ℕ) (ys : List ℕ) (i : ℕ) → i < length ys → getD ys i 0 ≡ x → ((p : ℕ) → p < i → getD ys p 0 ≡ x → ⊥) → position x ys ≡ i
+unfolding position
+position-first x [] i l e first = absurd (omega arith)
+position-first x (y ∷ ys) zero l e first = rw (eq-eqb y x e) refl
+position-first x (y ∷ ys) (suc i) l e first = rw (ne-eqb y x (first 0 (omega arith))) (ap suc (position-first x ys i (omega arith) e (λ p b. first (suc p) (omega arith))))
+
+pub position-nowhere : (x : ℕ) (ys : List ℕ) → ((p : ℕ) → p < length ys → getD ys p 0 ≡ x → ⊥) → position x ys ≡ length ys
+unfolding position
+position-nowhere x [] none = refl
+position-nowhere x (y ∷ ys) none = rw (ne-eqb y x (none 0 (omega arith))) (ap suc (position-nowhere x ys (λ p b. none (suc p) (omega arith))))
+
 -- the entries in use, the first `count` of a table
 module _ (ys : List ℕ) (count : ℕ) (long : count ≤ length ys) where
   pub used : length (take count ys) ≡ count
@@ -67,6 +101,10 @@ module _ (ys : List ℕ) (count : ℕ) (long : count ≤ length ys) where
   pub position-none : (x : ℕ) → position x (drop count (take count ys)) ≡ 0
   unfolding position
   position-none x = rw past-all
+
+-- a number stored behind the entries in use
+pub pushed : (table : List ℕ) (count x : ℕ) → count < tableSize → length table ≡ tableSize → Pushed count x table (set table count x)
+pushed table count x room sized = record { holds = rw add-one (take-suc-set table count x (omega arith)); sized = length-set table count x ∙ sized }
 
 -- an entry moved up into the gap at i: the gap is one further on
 pub shift-step : (t : List ℕ) (count i : ℕ) → i + 1 < count → count ≤ length t

@@ -8,7 +8,8 @@ ghost use Rattle.table.specs.Table.{tableSize, isIn, position, without, 
 // As many entries as a log may have records.
 pub const SIZE: usize = 1024;
 
-pub type Table = [u32; SIZE];
+// Clients, operations and codes of calls are below 65,536.
+pub type Table = [u16; SIZE];
 
 // Whether x is in a list. The loop runs to the end, so that it is done several entries at a time.
 pub fn is_in(x: u32, list: &[u32]) -> bool
@@ -25,17 +26,24 @@ pub fn is_in(x: u32, list: &[u32]) -> bool
     found
 }
 
-// Whether x is in the table.
-pub fn contains(table: &Table, count: usize, x: u32) -> bool
+// Whether x is in the table. The loop runs to the end, as that of `is_in` does.
+pub fn contains(table: &Table, count: usize, x: u16) -> bool
     requires { ⌜ Fits count (now table) ⌝ }
     ensures { λ r. ⌜ r ≡ isIn x (take count (now (table .entry))) ⌝ }
 {
-    let entries = &table[..];
-    is_in(x, &entries[..count])
+    let mut among = false;
+    let mut at = 0;
+    while at < count {
+        if table[at] == x {
+            among = true;
+        }
+        at += 1;
+    }
+    among
 }
 
 // The index of the first x, or `count` where there is none.
-pub fn find(table: &Table, count: usize, x: u32) -> usize
+pub fn find(table: &Table, count: usize, x: u16) -> usize
     requires { ⌜ Fits count (now table) ⌝ }
     ensures { λ r. ⌜ r ≡ position x (take count (now (table .entry))) ⌝ }
 {
@@ -50,7 +58,7 @@ pub fn find(table: &Table, count: usize, x: u32) -> usize
 }
 
 // Puts x behind the entries in use.
-pub fn push(table: &mut Table, count: usize, x: u32)
+pub fn push(table: &mut Table, count: usize, x: u16)
     requires { ⌜ (count < tableSize) × (length (now table) ≡ tableSize) ⌝ }
     ensures { λ _. ⌜ Pushed count x (now (table .entry)) (now (table .exit)) ⌝ }
 {

@@ -4,14 +4,15 @@ use native.Mathlib.Omega.{arith}
 use native.Mathlib.Decide.{decLt, ℕ-discrete}
 use mathlib.Core.Path.{_≡_, refl, sym, _∙_}
 use mathlib.Core.List.{List}
-use lib.ListN.{length, getD, set, take, length-set, replicate}
+use lib.ListN.{length, getD, set, take, length-set}
 use lib.Seq.{getD-set-same, getD-set-other, take-length}
 use borrow.Author.Tests.{lt-ltb, le-ltb, eq-eqb, ne-eqb}
 use Rattle.record.specs.Record.{decodeAt}
 use Rattle.record.specs.declared.record.Record.{Record}
 use Rattle.record.specs.declared.record.Decoded.{Decoded}
 use Rattle.record.specs.declared.record.Decoded.the-variants.{Found}
-use Rattle.reader.specs.Log.{headerLength, maxRecords, isCall, operations}
+use Rattle.map.proofs.Laws.{newKeys, newChains}
+use Rattle.reader.specs.Log.{headerLength, isCall, operations}
 use Rattle.reader.specs.Readable.{recordOf, Regular}
 use Rattle.reader.proofs.Laws.{few-operations}
 use Rattle.history.specs.Operations.{callIndex, operationAt}
@@ -124,7 +125,7 @@ pub record Spanning (log : List ℕ) (end : ℕ) (callers recent starts ends : L
   pub spanned : Spanned (walking .whole .records) i count starts ends
 
 pub spanning-starts : {log starts ends : List ℕ} {end : ℕ} → Whole log end → end ≤ pageRecords → length starts ≡ pageRecords → length ends ≡ pageRecords
-    → Spanning log end (replicate maxRecords 0) (replicate maxRecords 0) starts ends headerLength 0 0
+    → Spanning log end newKeys newChains starts ends headerLength 0 0
 spanning-starts whole short s e = record {
   walking = walking-starts whole;
   short = short;

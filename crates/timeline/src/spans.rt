@@ -7,8 +7,9 @@ ghost use Rattle.timeline.specs.Page.{pageRecords};
 ghost use Rattle.timeline.specs.Spans.{SpanNoted, SpansAre};
 use history::owners::is_call;
 use history::owners::owner_of;
+use map::map::LINKS;
+use map::map::SIZE;
 use reader::format::HEADER;
-use reader::format::MAX_RECORDS;
 use record::record::Decoded;
 use record::record::Event;
 use record::record::decode_at;
@@ -46,8 +47,8 @@ pub(crate) fn span(log: &[u8], records: usize, starts: &mut ByOperation, ends: &
         × (length (now starts) ≡ pageRecords) × (length (now ends) ≡ pageRecords) ⌝ }
     ensures { λ _. ⌜ SpansAre (now (log .entry)) (now (starts .exit)) (now (ends .exit)) ⌝ }
 {
-    let mut callers = [0u32; MAX_RECORDS];
-    let mut recent = [0u32; MAX_RECORDS];
+    let mut callers = [0u32; SIZE];
+    let mut recent = [0u16; LINKS];
     let mut at = HEADER;
     let mut count = 0;
     let mut i = 0;

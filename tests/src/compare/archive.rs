@@ -9,7 +9,7 @@ use crate::model::linearization::{is_linearization, lists_pending_adds_exactly_i
 use crate::model::projection::excerpted;
 use crate::model::record::Record;
 use crate::model::search::has_linearization;
-use crate::model::sheet::{order_on, violation_sheet, ORDER};
+use crate::model::sheet::{order_on, verdict_on, violation_sheet, ORDER};
 use crate::model::violations::{first_violation, Violation};
 use crate::model::{reader, writer};
 use crate::{refused, YES};
@@ -71,6 +71,14 @@ impl Archives {
             );
         }
     }
+}
+
+/// The verdict byte and the operations on the sheet for the log of these records, the archive of which
+/// is compared.
+pub fn verdict_of(records: &[Record]) -> (u8, Vec<u16>) {
+    Archives::new().compare_records(records);
+    let sheet = judged(&writer::log(records)).expect("a sheet");
+    verdict_on(&sheet).expect("the form of a sheet")
 }
 
 /// The sheet must be the pattern's, byte for byte, and so must the excerpt. That is "judged by

@@ -11,3 +11,4 @@ pub mod insertion;
 pub mod notation;
 pub mod samples;
 pub mod simulation;
+pub mod slots;

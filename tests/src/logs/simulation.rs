@@ -4,6 +4,7 @@
 use std::collections::{HashMap, VecDeque};
 
 use crate::logs::clients::{clients_apart, new_client};
+use crate::logs::slots::Slots;
 use crate::model::history::{operations, Action, Operation};
 use crate::model::record::{
     call_add, call_remove, return_add, return_empty, return_value, Event, Record, Removed,
@@ -81,6 +82,17 @@ pub fn runs_of_all_sizes() -> Vec<Run> {
 pub fn runs_with_clients_apart() -> Vec<Run> {
     let runs = runs_of_all_sizes().into_iter();
     runs.map(|run| run.with_clients_apart(1024)).collect()
+}
+
+/// The runs of all sizes with values that share one slot of the library's map, and clients that
+/// share few.
+pub fn runs_with_shared_slots() -> Vec<Run> {
+    let slots = Slots::default();
+    let mut runs = runs_of_all_sizes();
+    for run in &mut runs {
+        run.records = slots.shared(&run.records);
+    }
+    runs
 }
 
 /// What a simulation leaves.

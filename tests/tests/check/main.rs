@@ -5,3 +5,4 @@ mod damaged;
 mod document;
 mod exhaustive;
 mod lent_bytes;
+mod slots;

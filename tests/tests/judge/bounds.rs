@@ -1,6 +1,6 @@
 //! The judge on the longest logs, the longest sheets and the highest operation numbers.
 
-use yauponroof_tests::compare::archive::Archives;
+use yauponroof_tests::compare::archive::verdict_of;
 use yauponroof_tests::library::outcomes::judged;
 use yauponroof_tests::logs::insertion::with_run;
 use yauponroof_tests::logs::samples::{
@@ -10,15 +10,8 @@ use yauponroof_tests::model::reader::MAX_RECORDS;
 use yauponroof_tests::model::record::{
     call_add, call_remove, return_add, return_empty, return_value, Record,
 };
-use yauponroof_tests::model::sheet::{sheet, verdict_on, MOST_JUDGED, ORDER, SHEET_MAX};
+use yauponroof_tests::model::sheet::{sheet, MOST_JUDGED, ORDER, SHEET_MAX};
 use yauponroof_tests::model::writer::log;
-
-/// The verdict byte and the operations listed, compared with the table and the test of orders.
-fn verdict_of(records: &[Record]) -> (u8, Vec<u16>) {
-    Archives::new().compare_records(records);
-    let sheet = judged(&log(records)).expect("a sheet");
-    verdict_on(&sheet).expect("the form of a sheet")
-}
 
 #[test]
 fn no_records() {

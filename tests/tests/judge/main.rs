@@ -1,5 +1,6 @@
 //! The judge. With each log that has a pattern the excerpt is compared as well.
 
+mod blocked;
 mod bounds;
 mod buffers;
 mod chains;
@@ -13,6 +14,8 @@ mod lent_buffers;
 mod random;
 mod refusals;
 mod simulated;
+mod slots;
 mod threads;
 mod trades;
+mod uncovered_gaps;
 mod values;

@@ -4,7 +4,9 @@
 use yauponroof_tests::compare::narrowing::compare_narrowing;
 use yauponroof_tests::library::outcomes::narrowing_made;
 use yauponroof_tests::logs::enumerate::random_log;
-use yauponroof_tests::logs::simulation::{runs_of_all_sizes, runs_with_clients_apart, Run};
+use yauponroof_tests::logs::simulation::{
+    runs_of_all_sizes, runs_with_clients_apart, runs_with_shared_slots, Run,
+};
 use yauponroof_tests::model::projection::values;
 use yauponroof_tests::model::writer::log;
 use yauponroof_tests::random::Random;
@@ -47,6 +49,11 @@ fn lists_by_chance() {
 #[test]
 fn lists_by_chance_with_clients_apart() {
     compare_lists(&runs_with_clients_apart());
+}
+
+#[test]
+fn lists_by_chance_with_shared_slots() {
+    compare_lists(&runs_with_shared_slots());
 }
 
 #[test]

@@ -9,7 +9,8 @@ use yauponroof_tests::logs::changes::{
 use yauponroof_tests::logs::clients::{clients_apart, DISTANCES};
 use yauponroof_tests::logs::enumerate::{random_log, random_log_of_paired_operations};
 use yauponroof_tests::logs::simulation::{
-    runs_of_all_sizes, runs_with_clients_apart, simulate_load, Clients, Load, Run,
+    runs_of_all_sizes, runs_with_clients_apart, runs_with_shared_slots, simulate_load, Clients,
+    Load, Run,
 };
 use yauponroof_tests::model::page::{LINE, PAGE_MAX};
 use yauponroof_tests::model::reader::operation_count;
@@ -114,9 +115,15 @@ fn runs_of_a_queue_changed_in_one_place() {
 #[test]
 fn runs_of_all_sizes_have_a_page_or_30() {
     let mut pages = Pages::new();
-    for run in runs_of_all_sizes().iter().chain(&runs_with_clients_apart()) {
-        pages.compare(&log(&run.records));
+    for runs in [
+        runs_of_all_sizes(),
+        runs_with_clients_apart(),
+        runs_with_shared_slots(),
+    ] {
+        for run in runs {
+            pages.compare(&log(&run.records));
+        }
     }
-    assert_eq!(pages.seen(0) + pages.seen(30), 240);
-    pages.assert_at_least(&[(0, 60), (30, 120)]);
+    assert_eq!(pages.seen(0) + pages.seen(30), 360);
+    pages.assert_at_least(&[(0, 90), (30, 180)]);
 }

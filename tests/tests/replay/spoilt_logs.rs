@@ -7,7 +7,9 @@ use yauponroof_tests::logs::changes::{
     a_return_sooner, an_outcome_changed, neighbours_exchanged, outcomes_exchanged,
     values_added_exchanged,
 };
-use yauponroof_tests::logs::simulation::{runs_of_all_sizes, runs_with_clients_apart, Run};
+use yauponroof_tests::logs::simulation::{
+    runs_of_all_sizes, runs_with_clients_apart, runs_with_shared_slots, Run,
+};
 use yauponroof_tests::model::record::Record;
 use yauponroof_tests::model::sheet::sheet;
 use yauponroof_tests::model::writer::log;
@@ -35,4 +37,9 @@ fn logs_changed_in_one_place() {
 #[test]
 fn logs_changed_in_one_place_with_clients_apart() {
     compare_changed(&runs_with_clients_apart());
+}
+
+#[test]
+fn logs_changed_in_one_place_with_shared_slots() {
+    compare_changed(&runs_with_shared_slots());
 }

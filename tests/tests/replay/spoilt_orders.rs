@@ -4,7 +4,9 @@
 
 use yauponroof_tests::compare::replay::Replays;
 use yauponroof_tests::compare::spoilt::{compare_spoilt, Way};
-use yauponroof_tests::logs::simulation::{runs_of_all_sizes, runs_with_clients_apart, Run};
+use yauponroof_tests::logs::simulation::{
+    runs_of_all_sizes, runs_with_clients_apart, runs_with_shared_slots, Run,
+};
 use yauponroof_tests::model::history::{is_removed, operations, Action, Operation};
 use yauponroof_tests::model::record::Removed;
 use yauponroof_tests::model::sheet::sheet;
@@ -183,13 +185,17 @@ fn samples(runs: &[Run]) -> Vec<Sample> {
 #[test]
 fn the_order_in_which_operations_took_effect_is_legal() {
     let mut replays = Replays::new();
-    for runs in [runs_of_all_sizes(), runs_with_clients_apart()] {
+    for runs in [
+        runs_of_all_sizes(),
+        runs_with_clients_apart(),
+        runs_with_shared_slots(),
+    ] {
         for sample in samples(&runs) {
             let answer = replays.compare(&sample.log, &sheet(&sample.order));
             assert_eq!(answer, YES);
         }
     }
-    replays.assert_answered(480, 0);
+    replays.assert_answered(720, 0);
 }
 
 fn compare_spoilt_orders(runs: &[Run]) {

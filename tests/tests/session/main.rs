@@ -8,5 +8,6 @@ mod full;
 mod lent_buffers;
 mod random;
 mod refusals;
+mod slots;
 mod threads;
 mod whole_logs;

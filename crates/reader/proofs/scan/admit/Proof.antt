@@ -6,8 +6,15 @@ use borrow.Author.Needs.{needs}
 use Rattle.reader.proofs.scan.admit.Statement.{statement}
 use Rattle.reader.proofs.scan.admit.Tie as tie
 
-cast-client : tie.Need-cast-client
-cast-client c = search needs
+-- where the event of a record that calls for an add is known, or for a remove, and where the function begins
+abbrev add-called : tie.After-struct-known → tie.After-event
+add-called c = c .before .before .before .before .before .before .before .before
+
+abbrev remove-called : tie.After-struct-known2 → tie.After-enum-told
+remove-called c = c .before .before .before .before
+
+abbrev start : tie.After-event → tie.Start
+start e = e .before .before
 
 enum-known-event : tie.Need-enum-known-event
 enum-known-event c = search needs
@@ -18,14 +25,14 @@ begin-call-requires c κs = search needs
 push-requires : tie.Need-push-requires
 push-requires c κs = search needs
 
-add-t18 : tie.Need-add-t18
-add-t18 c = search needs
-
-add-t19 : tie.Need-add-t19
-add-t19 c = search needs
-
 add-t20 : tie.Need-add-t20
 add-t20 c = search needs
+
+add-t21 : tie.Need-add-t21
+add-t21 c = search needs
+
+add-t22 : tie.Need-add-t22
+add-t22 c = search needs
 
 enum-told : tie.Need-enum-told
 enum-told c = search needs
@@ -33,11 +40,11 @@ enum-told c = search needs
 begin-call-requires-2 : tie.Need-begin-call-requires-2
 begin-call-requires-2 c κs = search needs
 
-add-t24 : tie.Need-add-t24
-add-t24 c = search needs
+add-t26 : tie.Need-add-t26
+add-t26 c = search needs
 
-add-t25 : tie.Need-add-t25
-add-t25 c = search needs
+add-t27 : tie.Need-add-t27
+add-t27 c = search needs
 
 end-call-requires : tie.Need-end-call-requires
 end-call-requires c κs = search needs
@@ -45,19 +52,20 @@ end-call-requires c κs = search needs
 returns : tie.Need-returns
 returns c = record {
   at = refl;
-  kept = λ past k len ok. keeps-add (c .before .before .before .before .before .before .before .before .before .before .args .r) k len ok _ (c .before .before .before .before .before .before .before .event .given .1) (c .before .before .before .begin-call .ensures) (c .before .push .ensures);
+  kept = λ past k len ok. let e = add-called c in let pushed = c .before .push .ensures in
+      keeps-add (start e .args .r) k len ok _ (e .event .given .1) (c .before .before .before .before .begin-call .ensures) (start e .pre .1 .added) (pushed .0) (pushed .1);
 }
 
 returns-2 : tie.Need-returns-2
 returns-2 c = record {
   at = refl;
-  kept = λ past k len ok. keeps-remove (c .before .before .before .before .before .before .before .args .r) k len ok _ (c .before .before .before .before .enum-told .given .1) (c .before .begin-call2 .ensures);
+  kept = λ past k len ok. let e = remove-called c in keeps-remove (e .before .before .args .r) k len ok _ (e .enum-told .given .1) (c .before .begin-call2 .ensures);
 }
 
 returns-3 : tie.Need-returns-3
 returns-3 c = record {
   at = refl;
-  kept = λ past k len ok. let r = c .before .before .before .before .before .args .r in
+  kept = λ past k len ok. let r = c .before .before .before .before .args .r in
       keeps-return r k len ok _ (returned-asks (r .event) (c .before .before .before .match .keys3)) (c .end-call .ensures);
 }
 
@@ -65,17 +73,16 @@ pub admit-spec : {M : Type 1} → statement M
 admit-spec =
     tie.close
     (tie.spec
-    cast-client
     enum-known-event
     begin-call-requires
     push-requires
-    add-t18
-    add-t19
     add-t20
+    add-t21
+    add-t22
     enum-told
     begin-call-requires-2
-    add-t24
-    add-t25
+    add-t26
+    add-t27
     end-call-requires
     returns
     returns-2

@@ -1,13 +1,24 @@
 -- `extend_records` meets its contract: the outcome of `read_all` says what the log is read as, and `fault_behind` what is wrong with the bytes.
-use mathlib.Core.Path.{sym, ap}
+use mathlib.Core.Path.{refl, sym, ap}
+use borrow.Author.Needs.{needs}
+use Rattle.map.proofs.Laws.{new-linked}
 use Rattle.reader.specs.Feed.{extended}
 use Rattle.reader.proofs.Scanning.{passed-all, passed-not, all-have-room, extends-full, extends-faulty, extends-fits}
-use borrow.Author.Needs.{needs}
 use Rattle.reader.proofs.scan.extend_records.Statement.{statement}
 use Rattle.reader.proofs.scan.extend_records.Tie as tie
 
+-- where the tables are new, where all records have been read, and where there is room for one more
+abbrev start : tie.After-chains → tie.Start
+start c = c .before .before .before .before .before .before
+
+abbrev all-read : tie.Else1 → tie.After-p
+all-read c = c .before .before
+
+abbrev room : tie.After-fault-behind → tie.Else1
+room c = c .before .before .before .before .before
+
 read-all-requires : tie.Need-read-all-requires
-read-all-requires c κs = search needs
+read-all-requires c κs = (start c .pre, refl, refl, new-linked)
 
 enum-told : tie.Need-enum-told
 enum-told c = search needs
@@ -19,16 +30,19 @@ returns : tie.Need-returns
 returns c = extends-full (passed-all (c .before .before .before .before .read-all .ensures) (c .before .before .p .given .1)) _ (c .if1 .taken)
 
 fault-behind-requires : tie.Need-fault-behind-requires
-fault-behind-requires c κs = all-have-room (passed-all (c .before .before .before .before .before .before .before .read-all .ensures) (c .before .before .before .before .before .p .given .1)) (c .before .before .before .if1 .left)
+fault-behind-requires c κs = let b = c .before .before .before .before in
+    all-have-room (passed-all (all-read b .before .before .read-all .ensures) (all-read b .p .given .1)) (b .if1 .left)
 
 returns-2 : tie.Need-returns-2
-returns-2 c = extends-faulty (passed-all (c .before .before .before .before .before .before .before .before .before .read-all .ensures) (c .before .before .before .before .before .before .before .p .given .1)) _ (c .before .fault-behind .ensures) (c .before .before .before .before .before .if1 .left) (c .if2 .taken)
+returns-2 c = let b = room (c .before) in
+    extends-faulty (passed-all (all-read b .before .before .read-all .ensures) (all-read b .p .given .1)) _ (c .before .fault-behind .ensures) (b .if1 .left) (c .if2 .taken)
 
 returns-3 : tie.Need-returns-3
-returns-3 c = sym (ap (λ reading. extended reading (c .before .before .before .before .before .before .before .before .args .bytes .now)) (passed-not (c .before .before .read-all .ensures) (c .enum-told .given .1)))
+returns-3 c = let r = c .before .before in sym (ap (λ reading. extended reading (start (r .before) .args .bytes .now)) (passed-not (r .read-all .ensures) (c .enum-told .given .1)))
 
 returns-4 : tie.Need-returns-4
-returns-4 c = extends-fits (passed-all (c .before .before .before .before .before .before .before .before .before .read-all .ensures) (c .before .before .before .before .before .before .before .p .given .1)) _ (c .before .fault-behind .ensures) (c .before .before .before .before .before .if1 .left) (c .if2 .left)
+returns-4 c = let b = room (c .before) in
+    extends-fits (passed-all (all-read b .before .before .read-all .ensures) (all-read b .p .given .1)) _ (c .before .fault-behind .ensures) (b .if1 .left) (c .if2 .left)
 
 pub extend-records-spec : {M : Type 1} → statement M
 extend-records-spec =

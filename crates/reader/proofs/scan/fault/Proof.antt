@@ -4,6 +4,7 @@ use native.Mathlib.Omega.{arith}
 use mathlib.Core.Path.{_≡_, refl, sym, _∙_}
 use mathlib.Core.Bool.{true, false, not}
 use mathlib.Core.List.{List}
+use lib.ListN.{take}
 use lib.Dec.{ltb, eqb}
 use borrow.Author.Tests.{lt-ltb, le-ltb, eq-eqb, ne-eqb}
 use borrow.Author.Needs.{needs}
@@ -12,6 +13,7 @@ use Rattle.record.specs.Refusal.{clientBusy, noSuchCall}
 use Rattle.record.specs.declared.record.Event.{Event}
 use Rattle.record.specs.declared.record.Event.the-variants.{CallAdd, CallRemove, ReturnAdd, ReturnRemove}
 use Rattle.table.specs.Table.{isIn}
+use Rattle.map.proofs.Laws.{latest-isIn}
 use Rattle.reader.specs.Readable.{asks}
 use Rattle.reader.specs.Tables.{kindOfFound, eventFaultIn, faultIn}
 use Rattle.reader.proofs.Arms.{remove-called}
@@ -36,15 +38,20 @@ module _ (client : ℕ) (clients codes values : List ℕ) where
 
 -- where the function begins
 abbrev start : tie.After-asks → tie.Start
-start c = c .before .before .before .before .before
+start c = c .before .before .before .before
 
 -- where a call of add by an idle client is known as such
-abbrev add-called : tie.After-contains2 → tie.Else4
+abbrev add-called : tie.After-find → tie.Else4
 add-called c = c .before .before .before .before
+
+-- its value is found in the map exactly if it was added
+value-found : (c : tie.After-find) → let s = start (add-called c .before .before .before) .args in
+    ltb (c .find .result) (s .p .added) ≡ isIn (c .before .before .event .given .0 .0) (take (s .p .added) (s .values .now))
+value-found c = let linked = start (add-called c .before .before .before) .pre .linked in latest-isIn (omega (arith, linked .within, linked .keys-sized)) (c .find .ensures)
 
 -- the tick has not fallen,
 timely : (c : tie.After-asks) → ltb (start c .args .r .tick) (start c .args .p .tick) ≡ false
-timely c = le-ltb _ _ (c .before .before .if1 .left)
+timely c = le-ltb _ _ (c .before .if1 .left)
 
 -- and an event that asks for a call is a return, one that asks for none a call
 is-return : (c : tie.Then2) → asks (start (c .before) .args .r .event) ≡ 0 → ⊥
@@ -56,9 +63,6 @@ is-call c = sym (c .before .asks .ensures) ∙ c .if2 .left
 returns : tie.Need-returns
 unfolding faultIn
 returns c = rw (lt-ltb _ _ (c .if1 .taken))
-
-cast-client : tie.Need-cast-client
-cast-client c = search needs
 
 asks-requires : tie.Need-asks-requires
 asks-requires c κs = search needs
@@ -95,18 +99,18 @@ returns-4 c = let b = c .before .before in
 enum-known-event : tie.Need-enum-known-event
 enum-known-event c = search needs
 
-contains-requires-2 : tie.Need-contains-requires-2
-contains-requires-2 c κs = search needs
+find-requires : tie.Need-find-requires
+find-requires c κs = search needs
 
 returns-5 : tie.Need-returns-5
 unfolding faultIn
 returns-5 c = let b = add-called (c .before) in
-    rw (timely (b .before .before .before), c .before .before .before .event .given .1, sym (b .before .contains .ensures) ∙ b .if4 .left, sym (c .before .contains2 .ensures) ∙ c .if5 .taken)
+    rw (timely (b .before .before .before), c .before .before .before .event .given .1, sym (b .before .contains .ensures) ∙ b .if4 .left, sym (value-found (c .before)) ∙ lt-ltb _ _ (c .if5 .taken))
 
 returns-6 : tie.Need-returns-6
 unfolding faultIn
 returns-6 c = let b = add-called (c .before) in
-    rw (timely (b .before .before .before), c .before .before .before .event .given .1, sym (b .before .contains .ensures) ∙ b .if4 .left, sym (c .before .contains2 .ensures) ∙ c .if5 .left)
+    rw (timely (b .before .before .before), c .before .before .before .event .given .1, sym (b .before .contains .ensures) ∙ b .if4 .left, sym (value-found (c .before)) ∙ le-ltb _ _ (c .if5 .left))
 
 returns-7 : tie.Need-returns-7
 unfolding faultIn
@@ -118,7 +122,6 @@ fault-spec =
     tie.close
     (tie.spec
     returns
-    cast-client
     asks-requires
     pending-kind-requires
     returns-2
@@ -126,7 +129,7 @@ fault-spec =
     contains-requires
     returns-4
     enum-known-event
-    contains-requires-2
+    find-requires
     returns-5
     returns-6
     returns-7)

@@ -9,23 +9,26 @@ use Rattle.reader.proofs.scan.read_all.Statement.{statement}
 use Rattle.reader.proofs.scan.read_all.Tie as tie
 
 abbrev Inv-loop : tie.InvT-loop
-Inv-loop log count clients₀ codes₀ values₀ p₀ i₀ clients codes values p i = Scanned log count clients codes values p i
+Inv-loop log count clients₀ codes₀ values₀ chains₀ p₀ i₀ clients codes values chains p i = Scanned log count clients codes values chains p i
 
 abbrev μ-loop : tie.MeasureT-loop
-μ-loop log count clients₀ codes₀ values₀ p₀ i₀ clients codes values p i = count - i
+μ-loop log count clients₀ codes₀ values₀ chains₀ p₀ i₀ clients codes values chains p i = count - i
+
+-- a turn of the loop, from where its record is read
+abbrev turn : tie.After-read-record Inv-loop μ-loop → tie.In-loop Inv-loop μ-loop
+turn c = c .before .before .before .before .before
 
 loop-holds : tie.Need-loop-holds Inv-loop μ-loop
-loop-holds c = loop-starts _ _ _ _ _ (c .before .pre .1) (c .before .pre .2) (c .before .pre .3)
+loop-holds c = loop-starts _ _ _ _ _ _ (c .before .pre .1) (c .before .pre .2) (c .before .pre .3)
 
 read-record-requires : tie.Need-read-record-requires Inv-loop μ-loop
-read-record-requires c κs = let below : c .before .before .before .before .loop .i < 1024 = omega arith in
-    (below, loop-has-room (c .before .before .before .before .loop .inv) below)
+read-record-requires c κs = let loop = c .before .before .before .before .before .loop in let below : loop .i < 1024 = omega arith in (below, loop-has-room (loop .inv) below)
 
 enum-known-number : tie.Need-enum-known-number Inv-loop μ-loop
 enum-known-number c = search needs
 
 returns : tie.Need-returns Inv-loop μ-loop
-returns c = stopped (loop-stops (c .before .before .before .before .before .before .before .before .loop .inv) (c .before .before .before .before .before .before .before .loop-test .taken) (c .before .before .before .read-record .ensures) (c .before .number .given .1))
+returns c = let b = c .before .before .before in stopped (loop-stops (turn b .before .loop .inv) (turn b .loop-test .taken) (b .read-record .ensures) (c .before .number .given .1))
 
 enum-known-q : tie.Need-enum-known-q Inv-loop μ-loop
 enum-known-q c = search needs
@@ -37,7 +40,7 @@ loop-less : tie.Need-loop-less Inv-loop μ-loop
 loop-less c = omega arith
 
 loop-again : tie.Need-loop-again Inv-loop μ-loop
-loop-again c = loop-goes (c .before .before .before .before .before .before .before .before .loop .inv) (c .before .before .before .before .before .before .before .loop-test .taken) (c .before .before .before .read-record .ensures) (c .before .q .given .1)
+loop-again c = let b = c .before .before .before in loop-goes (turn b .before .loop .inv) (turn b .loop-test .taken) (b .read-record .ensures) (c .before .q .given .1)
 
 returns-2 : tie.Need-returns-2 Inv-loop μ-loop
 returns-2 c = stopped (loop-leaves-bytes (c .before .before .loop .inv) (c .before .loop-test .left) (c .if1 .taken))

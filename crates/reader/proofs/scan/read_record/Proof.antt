@@ -1,9 +1,22 @@
 -- `read_record` meets its contract: the record is malformed, has a fault, or is kept (`Scanning.antt`).
 use Rattle.reader.proofs.Scanning.{stops-malformed, stops-fault, goes-on}
-use mathlib.Core.Path.{sym, _∙_}
+use mathlib.Core.Path.{_≡_, sym, _∙_}
 use borrow.Author.Needs.{needs}
+use Rattle.record.specs.Record.{decodeAt}
+use Rattle.record.specs.declared.record.Decoded.the-variants.{Found}
 use Rattle.reader.proofs.scan.read_record.Statement.{statement}
 use Rattle.reader.proofs.scan.read_record.Tie as tie
+
+-- where a record has been found, behind the fault that was looked for and behind the tables that `admit` is lent
+abbrev found : tie.After-fault → tie.After-record
+found c = c .before .before .before .before .before .before
+
+abbrev tested : tie.After-admit → tie.Else1
+tested c = c .before .before .before .before .before
+
+-- what the bytes are decoded as
+decodes : (c : tie.After-record) → decodeAt (c .before .before .before .before .args .log .now) (c .before .before .before .before .args .p .at) ≡ Found (c .«record» .given .0 .0) (c .«record» .given .0 .1 .0)
+decodes c = sym (c .before .before .decode-at .ensures) ∙ c .«record» .given .1
 
 decode-at-requires : tie.Need-decode-at-requires
 decode-at-requires c κs = search needs
@@ -18,7 +31,7 @@ fault-requires : tie.Need-fault-requires
 fault-requires c κs = search needs
 
 returns : tie.Need-returns
-returns c = stops-fault (sym (c .before .before .before .before .before .before .before .before .decode-at .ensures) ∙ c .before .before .before .before .before .before .«record» .given .1) (c .before .fault .ensures) (c .if1 .taken)
+returns c = stops-fault (decodes (found (c .before))) (c .before .fault .ensures) (c .if1 .taken)
 
 admit-requires : tie.Need-admit-requires
 admit-requires c κs = search needs
@@ -27,7 +40,7 @@ returns-2 : tie.Need-returns-2
 returns-2 c = stops-malformed (sym (c .before .before .before .decode-at .ensures) ∙ c .before .number .given .1)
 
 returns-3 : tie.Need-returns-3
-returns-3 c = goes-on (sym (c .before .before .before .before .before .before .before .before .before .before .before .before .decode-at .ensures) ∙ c .before .before .before .before .before .before .before .before .before .before .«record» .given .1) (c .before .before .before .before .before .fault .ensures) (c .before .before .before .before .if1 .left) (c .admit .ensures)
+returns-3 c = let b = tested c in goes-on (decodes (found (b .before))) (b .before .fault .ensures) (b .if1 .left) (c .admit .ensures)
 
 pub read-record-spec : {M : Type 1} → statement M
 read-record-spec =

@@ -1,13 +1,21 @@
 -- `read_records` meets its contract: the outcome of `read_all` says what the log is read as.
-use mathlib.Core.Path.{sym, ap}
+use mathlib.Core.Path.{refl, sym, ap}
+use borrow.Author.Needs.{needs}
+use Rattle.map.proofs.Laws.{new-linked}
 use Rattle.reader.specs.Tables.{surveyed}
 use Rattle.reader.proofs.Scanning.{passed-all, passed-not, all-fit, all-surveyed}
-use borrow.Author.Needs.{needs}
 use Rattle.reader.proofs.scan.read_records.Statement.{statement}
 use Rattle.reader.proofs.scan.read_records.Tie as tie
 
+-- where the tables are new, and where all records have been read
+abbrev start : tie.After-chains → tie.Start
+start c = c .before .before .before .before .before
+
+abbrev all-read : tie.After-codes2 → tie.After-p
+all-read c = c .before .before
+
 read-all-requires : tie.Need-read-all-requires
-read-all-requires c κs = search needs
+read-all-requires c κs = (start c .pre, refl, refl, new-linked)
 
 enum-known-number : tie.Need-enum-known-number
 enum-known-number c = search needs
@@ -16,13 +24,13 @@ enum-known-p : tie.Need-enum-known-p
 enum-known-p c = search needs
 
 earliest-remove-requires : tie.Need-earliest-remove-requires
-earliest-remove-requires c κs = all-fit (passed-all (c .before .before .before .before .read-all .ensures) (c .before .before .p .given .1)) (c .before .before .before .before .before .before .before .before .before .pre)
+earliest-remove-requires c κs = let r = all-read c .before .before in all-fit (passed-all (r .read-all .ensures) (all-read c .p .given .1)) (start (r .before) .pre)
 
 returns : tie.Need-returns
 returns c = sym (ap surveyed (passed-not (c .before .before .before .read-all .ensures) (c .before .number .given .1)))
 
 returns-2 : tie.Need-returns-2
-returns-2 c = all-surveyed (passed-all (c .before .before .before .before .before .read-all .ensures) (c .before .before .before .p .given .1)) (c .earliest-remove .ensures)
+returns-2 c = let p = all-read (c .before) in all-surveyed (passed-all (p .before .before .read-all .ensures) (p .p .given .1)) (c .earliest-remove .ensures)
 
 pub read-records-spec : {M : Type 1} → statement M
 read-records-spec =

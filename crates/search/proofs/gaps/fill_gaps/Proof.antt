@@ -4,14 +4,14 @@ use Rattle.search.proofs.gaps.fill_gaps.Tie as tie
 use borrow.Author.Needs.{needs}
 use mathlib.Core.Path.{refl}
 
-open-gaps-requires : tie.Need-open-gaps-requires
-open-gaps-requires c κs = search needs
+open-values-requires : tie.Need-open-values-requires
+open-values-requires c κs = search needs
 
 sweep-requires : tie.Need-sweep-requires
 sweep-requires c κs = search needs
 
 returns : tie.Need-returns
-returns c = c .sweep .ensures .uncovered _ _ refl (c .before .before .open-gaps .ensures)
+returns c = c .sweep .ensures .uncovered _ _ refl (c .before .before .open-values .ensures)
 
 pub fill-gaps-spec : {M : Type 1} → statement M
-fill-gaps-spec = tie.close (tie.spec open-gaps-requires sweep-requires returns)
+fill-gaps-spec = tie.close (tie.spec open-values-requires sweep-requires returns)

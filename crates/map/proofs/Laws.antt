@@ -1,0 +1,59 @@
+-- What the crates above know of a map.
+use Prim.Native.Nat.{ℕ, _+_, _≤_, _<_}
+use native.Mathlib.Omega.{arith}
+use native.Mathlib.Decide.{decLt}
+use mathlib.Core.Path.{_≡_, sym, _∙_}
+use mathlib.Core.List.{List}
+use lib.ListN.{length, getD, replicate, take, length-replicate}
+use lib.Seq.{getD-take, length-take-le}
+use lib.Dec.{ltb}
+use borrow.Author.Tests.{lt-ltb, le-ltb}
+use Rattle.table.specs.Table.{isIn, position}
+use Rattle.table.proofs.Lists.{zeros, isIn-at, isIn-nowhere, position-first, position-nowhere}
+use Rattle.map.specs.Map.{mapSize, slotCount, Linked, Latest}
+
+-- the arrays of a new map, which has no entries
+abbrev pub newKeys : List ℕ
+newKeys = replicate mapSize 0
+
+abbrev pub newChains : List ℕ
+newChains = replicate (slotCount + mapSize) 0
+
+pub new-linked : Linked newKeys newChains 0
+new-linked = record {
+  within = omega arith;
+  keys-sized = length-replicate {A = ℕ} mapSize 0;
+  chains-sized = length-replicate {A = ℕ} (slotCount + mapSize) 0;
+  tops = λ slot l. rw (zeros (slotCount + mapSize) slot) (record { within = omega arith; above = λ p b. absurd (omega arith); shares = λ some. absurd (omega arith) });
+  links = λ i l. absurd (omega arith);
+}
+
+module _ {keys : List ℕ} {count x r : ℕ} (long : count ≤ length keys) (latest : Latest keys count x r) where
+  used : length (take count keys) ≡ count
+  used = length-take-le count keys long
+
+  -- an entry below the count that holds x is one of the list of the entries in use
+  at : (p : ℕ) → p < count → getD keys p 0 ≡ x → getD (take count keys) p 0 ≡ x
+  at p l e = getD-take count keys p 0 l ∙ e
+
+  below : (p : ℕ) → p < length (take count keys) → getD (take count keys) p 0 ≡ x → (r < count) × (p ≤ r)
+  below p l e = let h : p < count = omega (arith, used) in latest .last p h (sym (getD-take count keys p 0 h) ∙ e)
+
+  -- `find` finds an entry exactly if x is among the keys
+  pub latest-isIn : ltb r count ≡ isIn x (take count keys)
+  latest-isIn = by (decLt r count)
+    where
+      by : Dec (r < count) → ltb r count ≡ isIn x (take count keys)
+      by (yes l) = lt-ltb r count l ∙ sym (isIn-at x (take count keys) r (omega (arith, used)) (at r l (latest .holds l)))
+      by (no n) = le-ltb r count (omega arith) ∙ sym (isIn-nowhere x (take count keys) (λ p l e. n (below p l e .0)))
+
+  -- where no key is held twice, `find` answers what `find` of a table does
+  pub latest-position : ((p q : ℕ) → p < count → q < count → getD keys p 0 ≡ getD keys q 0 → p ≡ q) → r ≡ position x (take count keys)
+  latest-position distinct = by (decLt r count)
+    where
+      first : r < count → (p : ℕ) → p < r → getD (take count keys) p 0 ≡ x → ⊥
+      first l p b e = omega (arith, distinct p r (omega arith) l (sym (getD-take count keys p 0 (omega arith)) ∙ e ∙ sym (latest .holds l)))
+
+      by : Dec (r < count) → r ≡ position x (take count keys)
+      by (yes l) = sym (position-first x (take count keys) r (omega (arith, used)) (at r l (latest .holds l)) (first l))
+      by (no n) = omega (arith, used, latest .within, position-nowhere x (take count keys) (λ p l e. n (below p l e .0)))

@@ -1,0 +1,36 @@
+-- A map: a table of keys, of which the first `count` are in use, and chains that lead to them. What is found in it is said by the keys alone.
+use Prim.Native.Nat.{ℕ, _+_, _-_, _*_, _/_, _%_, _≤_, _<_}
+use mathlib.Core.Path.{_≡_}
+use mathlib.Core.List.{List}
+use lib.ListN.{length, getD}
+
+-- as many entries as a log may have records
+abbrev pub mapSize : ℕ
+mapSize = 1024
+
+-- r is the latest of the first `count` entries that holds x, or `count` if none does.
+pub record Latest (keys : List ℕ) (count x r : ℕ) : Type 0 where
+  pub within : r ≤ count
+  pub holds : r < count → getD keys r 0 ≡ x
+  pub last : (p : ℕ) → p < count → getD keys p 0 ≡ x → (r < count) × (p ≤ r)
+
+abbrev pub slotCount : ℕ
+slotCount = 512
+
+-- the slot of a key
+abbrev pub slotOf : ℕ → ℕ
+slotOf x = x * 2654435761 / 8388608 % slotCount
+
+-- n is 1 above the latest of the first `count` entries that has a slot, and 0 if none has it.
+pub record Top (keys : List ℕ) (count slot n : ℕ) : Type 0 where
+  pub within : n ≤ count
+  pub above : (p : ℕ) → p < count → slotOf (getD keys p 0) ≡ slot → p < n
+  pub shares : 0 < n → slotOf (getD keys (n - 1) 0) ≡ slot
+
+-- The chains lead from each slot to its latest entry, and from each entry to the one before it in its slot.
+pub record Linked (keys chains : List ℕ) (count : ℕ) : Type 0 where
+  pub within : count ≤ mapSize
+  pub keys-sized : length keys ≡ mapSize
+  pub chains-sized : length chains ≡ slotCount + mapSize
+  pub tops : (slot : ℕ) → slot < slotCount → Top keys count slot (getD chains slot 0)
+  pub links : (i : ℕ) → i < count → Top keys i (slotOf (getD keys i 0)) (getD chains (slotCount + i) 0)

@@ -1,0 +1,2 @@
+// A map from keys to the entries that hold them.
+pub mod map;

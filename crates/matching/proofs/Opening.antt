@@ -1,0 +1,92 @@
+-- Numbers of adds are noted at the positions of their returns, and the highest of them is kept from position to position.
+use Prim.Native.Nat.{ℕ, _+_, _≤_, _<_}
+use native.Mathlib.Omega.{arith}
+use native.Mathlib.Decide.{decLt}
+use mathlib.Core.Path.{_≡_, refl, sym, _∙_}
+use mathlib.Core.Logic.{_⊎_, inl, inr}
+use mathlib.Core.List.{List}
+use lib.ListN.{getD, set, length-set}
+use Rattle.reader.specs.Log.{maxRecords}
+use Rattle.history.specs.History.{History, add}
+use Rattle.history.proofs.Basics.{up-to}
+use Rattle.violations.specs.Violations.{Is}
+use Rattle.matching.specs.Matching.{Cleared}
+use Rattle.matching.specs.Opened.{OpenedAt, Opened}
+use Rattle.matching.proofs.Numbers.{Larger}
+use Rattle.matching.proofs.Storing.{entry-stored}
+
+-- nothing is noted in a new table
+pub opened-none : (h : History) (number : List ℕ) {opened : List ℕ} → Cleared opened → Opened h number 0 opened
+opened-none h number cleared = record {
+  sized = cleared .sized;
+  highest = λ g l. record { over = λ a m. absurd (omega arith); met = λ p. absurd (omega (arith, cleared .zero g)) };
+}
+
+-- an operation that is not noted at a position leaves it as it is
+opened-at-other : {h : History} {number : List ℕ} {n g x : ℕ} → OpenedAt h number n g x → (Is h add n → h .ret n ≡ g → ⊥)
+    → OpenedAt h number (n + 1) g x
+opened-at-other {h} {number} {g = g} {x = x} at other = record {
+  over = up-to {P = λ a. Is h add a → h .ret a ≡ g → getD number a 0 ≤ x} (at .over) (λ is e. absurd (other is e));
+  met = at .met;
+}
+
+module _ {h : History} {number : List ℕ} {n : ℕ} {opened : List ℕ} (so-far : Opened h number n opened) where
+  -- an operation that is no add, or is pending, is not noted
+  pub opened-other : (Is h add n → h .ret n < h .end → ⊥) → Opened h number (n + 1) opened
+  opened-other other = record { sized = so-far .sized; highest = λ g l. opened-at-other (so-far .highest g l) (λ is e. other is (omega arith)) }
+
+  -- an add that has returned is noted at its return
+  pub opened-add : h .end ≤ maxRecords → Is h add n → h .ret n < h .end → {x : ℕ} → Larger (getD opened (h .ret n) 0) (getD number n 0) x
+      → Opened h number (n + 1) (set opened (h .ret n) x)
+  opened-add short is returned {x} (old, new, one) = record {
+    sized = simp length-set (so-far .sized);
+    highest = λ g l. entry-stored (OpenedAt h number (n + 1) g) opened (h .ret n) x g (omega (arith, so-far .sized))
+        (λ e. rw e here)
+        (λ d. opened-at-other (so-far .highest g l) (λ i e. d (sym e)));
+  }
+    where
+      at : OpenedAt h number n (h .ret n) (getD opened (h .ret n) 0)
+      at = so-far .highest (h .ret n) returned
+
+      met : (x ≡ getD opened (h .ret n) 0) ⊎ (x ≡ getD number n 0) → 0 < x → (a : ℕ) × Is h add a × (h .ret a ≡ h .ret n) × (getD number a 0 ≡ x)
+      met (inl e) p = let (a, is, r, f) = at .met (omega arith) in (a, is, r, f ∙ sym e)
+      met (inr e) p = (n, is, refl, sym e)
+
+      here : OpenedAt h number (n + 1) (h .ret n) x
+      here = record {
+        over = up-to {P = λ a. Is h add a → h .ret a ≡ h .ret n → getD number a 0 ≤ x} (λ a l i e. omega (arith, at .over a l i e)) (λ i e. new);
+        met = met one;
+      }
+
+-- x is the highest number of an add that returns below position g; 0 if there is none.
+pub record Highest (h : History) (number : List ℕ) (g x : ℕ) : Type 0 where
+  pub over : (a : ℕ) → Is h add a → h .ret a < g → getD number a 0 ≤ x
+  pub met : 0 < x → (a : ℕ) × Is h add a × (h .ret a < g) × (getD number a 0 ≡ x)
+
+pub highest-starts : (h : History) (number : List ℕ) → Highest h number 0 0
+highest-starts h number = record { over = λ a is l. absurd (omega arith); met = λ p. absurd (omega arith) }
+
+-- one position more: y is noted there, and z is the larger of the two
+pub highest-more : {h : History} {number : List ℕ} {g x y z : ℕ} → Highest h number g x → OpenedAt h number (h .count) g y → Larger x y z
+    → Highest h number (g + 1) z
+highest-more {h} {number} {g} {x} {y} {z} so-far at (old, new, one) = record { over = λ a is l. over a is l (decLt (h .ret a) g); met = met one }
+  where
+    over : (a : ℕ) → Is h add a → h .ret a < g + 1 → Dec (h .ret a < g) → getD number a 0 ≤ z
+    over a is l (yes b) = omega (arith, so-far .over a is b)
+    over a is l (no b) = omega (arith, at .over a (is .known) is (omega arith))
+
+    met : (z ≡ x) ⊎ (z ≡ y) → 0 < z → (a : ℕ) × Is h add a × (h .ret a < g + 1) × (getD number a 0 ≡ z)
+    met (inl e) p = let (a, is, l, f) = so-far .met (omega arith) in (a, is, omega arith, f ∙ sym e)
+    met (inr e) p = let (a, is, r, f) = at .met (omega arith) in (a, is, omega arith, f ∙ sym e)
+
+-- several positions more, at which nothing is noted
+pub highest-on : {h : History} {number opened : List ℕ} {g f x : ℕ} → Opened h number (h .count) opened → Highest h number g x → g ≤ f → f ≤ h .end
+    → ((p : ℕ) → g ≤ p → p < f → getD opened p 0 ≡ 0) → Highest h number f x
+highest-on {h} {number} {opened} {g} {f} {x} all so-far later within none = record {
+  over = λ a is l. over a is l (decLt (h .ret a) g);
+  met = λ p. let (a, is, l, e) = so-far .met p in (a, is, omega arith, e);
+}
+  where
+    over : (a : ℕ) → Is h add a → h .ret a < f → Dec (h .ret a < g) → getD number a 0 ≤ x
+    over a is l (yes b) = so-far .over a is b
+    over a is l (no b) = omega (arith, all .highest (h .ret a) (omega arith) .over a (is .known) is refl, none (h .ret a) (omega arith) l)

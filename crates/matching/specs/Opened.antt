@@ -1,0 +1,18 @@
+-- What the code notes of adds at the positions of their returns. What the judge answers can be understood without this file.
+use Prim.Native.Nat.{ℕ, _≤_, _<_}
+use mathlib.Core.Path.{_≡_}
+use mathlib.Core.List.{List}
+use lib.ListN.{length, getD}
+use Rattle.reader.specs.Log.{maxRecords}
+use Rattle.history.specs.History.{History, add}
+use Rattle.violations.specs.Violations.{Is}
+
+-- Each operation has a number in a table. x is the highest one of the adds among the first n operations that return at position g; 0 if there is
+-- none.
+pub record OpenedAt (h : History) (number : List ℕ) (n g x : ℕ) : Type 0 where
+  pub over : (a : ℕ) → a < n → Is h add a → h .ret a ≡ g → getD number a 0 ≤ x
+  pub met : 0 < x → (a : ℕ) × Is h add a × (h .ret a ≡ g) × (getD number a 0 ≡ x)
+
+pub record Opened (h : History) (number : List ℕ) (n : ℕ) (opened : List ℕ) : Type 0 where
+  pub sized : length opened ≡ maxRecords
+  pub highest : (g : ℕ) → g < h .end → OpenedAt h number n g (getD opened g 0)
