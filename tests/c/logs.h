@@ -157,15 +157,6 @@ static inline void log_calls_then_returns(struct log *log, struct sheet *order)
     log_calls_then_returns_by(log, order, clients);
 }
 
-/* The clients have 8 remainders by 1,024, 64 clients each. */
-static inline void log_calls_then_returns_apart(struct log *log, struct sheet *order)
-{
-    unsigned clients[512];
-    for (unsigned i = 0; i < 512; i++)
-        clients[i] = 1024 * (i / 8) + i % 8;
-    log_calls_then_returns_by(log, order, clients);
-}
-
 /* The clients share 4 slots of the map: all of the slots 0 to 2, and the first of slot 3. */
 static inline void log_calls_then_returns_of_slots(struct log *log, struct sheet *order)
 {

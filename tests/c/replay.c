@@ -131,8 +131,6 @@ static void check_largest(void)
     check_large("a run with a client for each operation");
     log_calls_then_returns(&run, &order);
     check_large("512 calls, then their returns");
-    log_calls_then_returns_apart(&run, &order);
-    check_large("512 calls, then their returns, by clients 1,024 apart");
     log_calls_then_returns_of_slots(&run, &order);
     check_large("512 calls, then their returns, by clients that share slots");
     log_values_of_slot(&run, &order);

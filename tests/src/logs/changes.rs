@@ -7,6 +7,17 @@ use crate::random::Random;
 /// A way to change the log of a run; none if the run has nothing to change in this way.
 pub type Change = fn(&Run, &mut Random) -> Option<Vec<Record>>;
 
+/// All ways.
+pub const CHANGES: [Change; 7] = [
+    neighbours_exchanged,
+    a_return_sooner,
+    a_call_later,
+    values_added_exchanged,
+    outcomes_exchanged,
+    near_outcomes_exchanged,
+    an_outcome_changed,
+];
+
 /// Neighbouring records of two clients change places. Two calls then change their numbers.
 pub fn neighbours_exchanged(run: &Run, random: &mut Random) -> Option<Vec<Record>> {
     let records = &run.records;

@@ -3,10 +3,7 @@
 //! a search that knows nothing of patterns.
 
 use yauponroof_tests::compare::archive::Archives;
-use yauponroof_tests::logs::changes::{
-    a_call_later, a_return_sooner, an_outcome_changed, near_outcomes_exchanged,
-    neighbours_exchanged, outcomes_exchanged, values_added_exchanged, Change,
-};
+use yauponroof_tests::logs::changes::CHANGES;
 use yauponroof_tests::logs::enumerate::{random_log, random_log_of_paired_operations};
 use yauponroof_tests::logs::simulation::{simulate_load, Clients, Load};
 use yauponroof_tests::model::history::operations;
@@ -53,16 +50,6 @@ fn paired_operations_by_chance() {
     }
     archives.assert_at_least([40_000, 0, 0, 0, 17_000, 5000, 12_000]);
 }
-
-const CHANGES: [Change; 7] = [
-    neighbours_exchanged,
-    a_return_sooner,
-    a_call_later,
-    values_added_exchanged,
-    outcomes_exchanged,
-    near_outcomes_exchanged,
-    an_outcome_changed,
-];
 
 #[test]
 fn short_runs_of_a_queue_changed_in_one_place() {

@@ -2,10 +2,7 @@
 //! which values and clients they are does not matter. Up to 1,024 records, sound and not.
 
 use yauponroof_tests::compare::archive::{verdict_of, Archives};
-use yauponroof_tests::logs::changes::{
-    a_call_later, a_return_sooner, an_outcome_changed, near_outcomes_exchanged,
-    neighbours_exchanged, outcomes_exchanged, values_added_exchanged, Change,
-};
+use yauponroof_tests::logs::changes::CHANGES;
 use yauponroof_tests::logs::enumerate::every_log;
 use yauponroof_tests::logs::samples::{adds_then_removes, pending_adds};
 use yauponroof_tests::logs::simulation::runs_with_shared_slots;
@@ -113,16 +110,6 @@ fn runs_of_a_queue() {
     }
     assert_eq!(archives.seen(), [120, 0, 0, 0, 0, 0, 0]);
 }
-
-const CHANGES: [Change; 7] = [
-    neighbours_exchanged,
-    a_return_sooner,
-    a_call_later,
-    values_added_exchanged,
-    outcomes_exchanged,
-    near_outcomes_exchanged,
-    an_outcome_changed,
-];
 
 #[test]
 fn runs_of_a_queue_changed_in_one_place() {
