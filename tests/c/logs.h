@@ -157,7 +157,8 @@ static inline void log_calls_then_returns(struct log *log, struct sheet *order)
     log_calls_then_returns_by(log, order, clients);
 }
 
-/* The clients share 4 slots of the map: all of the slots 0 to 2, and the first of slot 3. */
+/* The clients share 4 slots of the map: all of the slots 0 to 2, and all but one of
+   slot 3. */
 static inline void log_calls_then_returns_of_slots(struct log *log, struct sheet *order)
 {
     unsigned clients[512];

@@ -36,8 +36,8 @@ pub record Ends (records : List Record) (n count o : ℕ) : Type 0 where
   pub returns : returnIndex records (callIndex records o) ≡ n
   pub asked : leaves (recordOf records (callIndex records o) .event) ≡ asks (recordOf records n .event)
 
-module _ {records : List Record} (regular : Regular records) {n : ℕ} (h : n < length records) {count count' : ℕ} {old callers recent callers' recent' table : List ℕ}
-    (filled : Filled records old n count callers recent table) (traced : Traced records (n + 1) count' callers' recent') {o : ℕ} (is : o ≡ operationAt records n) where
+module _ {records : List Record} (regular : Regular records) {n : ℕ} (h : n < length records) {count count' : ℕ} {old callers chains callers' chains' table : List ℕ}
+    (filled : Filled records old n count callers chains table) (traced : Traced records (n + 1) count' callers' chains') {o : ℕ} (is : o ≡ operationAt records n) where
   more : count' ≡ count + isCall (recordOf records n .event)
   more = omega (arith, rank-step records n h, filled .traced .counted, traced .counted)
 
@@ -60,7 +60,7 @@ module _ {records : List Record} (regular : Regular records) {n : ℕ} (h : n < 
     before p l r (yes b) = b
     before p l r (no b) = absurd (not-now p l (omega arith))
 
-    pub filled-call : {table' : List ℕ} → Entered table o (kindBy (recordOf records n .event) CallRemove) (valueBy (recordOf records n .event) CallRemove) n (length records) table' → Filled records old (n + 1) count' callers' recent' table'
+    pub filled-call : {table' : List ℕ} → Entered table o (kindBy (recordOf records n .event) CallRemove) (valueBy (recordOf records n .event) CallRemove) n (length records) table' → Filled records old (n + 1) count' callers' chains' table'
     filled-call {table'} entered = record {
       traced = traced;
       table-sized = entered .sized ∙ filled .table-sized;
@@ -92,7 +92,7 @@ module _ {records : List Record} (regular : Regular records) {n : ℕ} (h : n < 
         }
 
     pub filled-return : {table' : List ℕ} → Entered table o (kindBy (recordOf records (callIndex records o) .event) (recordOf records n .event)) (valueBy (recordOf records (callIndex records o) .event) (recordOf records n .event)) (callIndex records o) n table'
-        → Filled records old (n + 1) count' callers' recent' table'
+        → Filled records old (n + 1) count' callers' chains' table'
     filled-return {table'} entered = record {
       traced = traced;
       table-sized = entered .sized ∙ filled .table-sized;
@@ -112,10 +112,10 @@ module _ {records : List Record} (regular : Regular records) {n : ℕ} (h : n < 
         wait p l r (no d) = entry-stays entered d (filled .pending p l (omega arith))
 
 -- behind the last record the table holds the history
-pub filled-all : {records : List Record} {count : ℕ} {old callers recent table : List ℕ} → Filled records old (length records) count callers recent table
+pub filled-all : {records : List Record} {count : ℕ} {old callers chains table : List ℕ} → Filled records old (length records) count callers chains table
     → HistoryHeld records old table
 unfolding positionOf
-filled-all {records} {count} {old} {callers} {recent} {table} filled = record {
+filled-all {records} {count} {old} {callers} {chains} {table} filled = record {
   sized = filled .table-sized;
   agree = record {
     count = refl;

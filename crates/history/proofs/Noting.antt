@@ -19,14 +19,14 @@ use Rattle.history.specs.Table.{valueAt, callAt, Entered, Filled, Noted}
 use Rattle.history.proofs.Filling.{filled-call, Ends, return-ends, filled-return}
 
 -- a record that is a call is noted
-pub noted-call : {r : Record} {index count end : ℕ} {callers recent table callers' recent' table' : List ℕ} {owner : Owner} {e : Event}
-    → Owned r count callers recent owner callers' recent' → r .event ≡ e → isCall e ≡ 1
+pub noted-call : {r : Record} {index count end : ℕ} {callers chains table callers' chains' table' : List ℕ} {owner : Owner} {e : Event}
+    → Owned r count callers chains owner callers' chains' → r .event ≡ e → isCall e ≡ 1
     → Entered table (owner .operation) (kindBy e CallRemove) (valueBy e CallRemove) index end table'
-    → Noted r index count end callers recent table (owner .count) callers' recent' table'
-noted-call {r} {index} {count} {end} {callers} {recent} {table} {callers'} {recent'} {table'} {owner} {e} owned is c entered = record { kept = kept }
+    → Noted r index count end callers chains table (owner .count) callers' chains' table'
+noted-call {r} {index} {count} {end} {callers} {chains} {table} {callers'} {chains'} {table'} {owner} {e} owned is c entered = record { kept = kept }
   where
     kept : (records : List Record) (old : List ℕ) → Regular records → length records ≡ end → index < end → recordOf records index ≡ r
-        → Filled records old index count callers recent table → Filled records old (index + 1) (owner .count) callers' recent' table'
+        → Filled records old index count callers chains table → Filled records old (index + 1) (owner .count) callers' chains' table'
     kept records old regular whole below here filled =
         let h : index < length records = omega arith in
         let event : recordOf records index .event ≡ e = ap (λ q. q .event) here ∙ is in
@@ -51,14 +51,14 @@ remove-fits entered x kind value k v ReturnAdd l e = absurd (omega arith)
 remove-fits entered x kind value k v (ReturnRemove y) l e = absurd (omega arith)
 
 -- a record that is a return is noted
-pub noted-return : {r : Record} {index count end : ℕ} {callers recent table callers' recent' table' : List ℕ} {owner : Owner} {e : Event} {kind value call : ℕ}
-    → Owned r count callers recent owner callers' recent' → r .event ≡ e → isCall e ≡ 0 → Fits (valueAt table (owner .operation)) e kind value
+pub noted-return : {r : Record} {index count end : ℕ} {callers chains table callers' chains' table' : List ℕ} {owner : Owner} {e : Event} {kind value call : ℕ}
+    → Owned r count callers chains owner callers' chains' → r .event ≡ e → isCall e ≡ 0 → Fits (valueAt table (owner .operation)) e kind value
     → call ≡ callAt table (owner .operation) → Entered table (owner .operation) kind value call index table'
-    → Noted r index count end callers recent table (owner .count) callers' recent' table'
-noted-return {r} {index} {count} {end} {callers} {recent} {table} {callers'} {recent'} {table'} {owner} {e} owned is c fits called entered = record { kept = kept }
+    → Noted r index count end callers chains table (owner .count) callers' chains' table'
+noted-return {r} {index} {count} {end} {callers} {chains} {table} {callers'} {chains'} {table'} {owner} {e} owned is c fits called entered = record { kept = kept }
   where
     kept : (records : List Record) (old : List ℕ) → Regular records → length records ≡ end → index < end → recordOf records index ≡ r
-        → Filled records old index count callers recent table → Filled records old (index + 1) (owner .count) callers' recent' table'
+        → Filled records old index count callers chains table → Filled records old (index + 1) (owner .count) callers' chains' table'
     kept records old regular whole below here filled =
         let h : index < length records = omega arith in
         let event : recordOf records index .event ≡ e = ap (λ q. q .event) here ∙ is in

@@ -19,18 +19,18 @@ use Rattle.history.proofs.Filling.{filled-none, filled-all}
 use Rattle.history.proofs.Tracing.{traced-room}
 
 -- The loop of `fill` has come to record i.
-pub record Reached (log : List ℕ) (end : ℕ) (old callers recent table : List ℕ) (at count i : ℕ) : Type 0 where
+pub record Reached (log : List ℕ) (end : ℕ) (old callers chains table : List ℕ) (at count i : ℕ) : Type 0 where
   -- of a readable log, which stands at this offset
   pub whole : Whole log end
   pub along : Along log (whole .records) at i
   -- the tables hold the records before it
-  pub filled : Filled (whole .records) old i count callers recent table
+  pub filled : Filled (whole .records) old i count callers chains table
 
 pub reached-start : {log : List ℕ} {end : ℕ} → Whole log end → (table : List ℕ) → length table ≡ tableLength
     → Reached log end table newKeys newChains table headerLength 0 0
 reached-start whole table t = record { whole = whole; along = along-start whole; filled = filled-none (whole .records) table t }
 
-module _ {log : List ℕ} {end : ℕ} {old callers recent table : List ℕ} {at count i : ℕ} (reached : Reached log end old callers recent table at count i)
+module _ {log : List ℕ} {end : ℕ} {old callers chains table : List ℕ} {at count i : ℕ} (reached : Reached log end old callers chains table at count i)
     (l : i < end) where
   below : i < length (reached .whole .records)
   below = omega (arith, reached .whole .counted)
@@ -40,7 +40,7 @@ module _ {log : List ℕ} {end : ℕ} {old callers recent table : List ℕ} {at 
   reached-found = along-found (reached .along) below
 
   -- and room for what it says
-  pub reached-room : Room i count end callers recent table
+  pub reached-room : Room i count end callers chains table
   reached-room =
       let few = reached .along .readable .partial .regular .few in
       record {
@@ -51,8 +51,8 @@ module _ {log : List ℕ} {end : ℕ} {old callers recent table : List ℕ} {at 
       }
 
   pub reached-next : {r : Record} {next : ℕ} {d : Decoded} → d ≡ decodeAt log at → d ≡ Found r next
-      → {count' : ℕ} {callers' recent' table' : List ℕ} → Noted r i count end callers recent table count' callers' recent' table'
-      → Reached log end old callers' recent' table' next count' (i + 1)
+      → {count' : ℕ} {callers' chains' table' : List ℕ} → Noted r i count end callers chains table count' callers' chains' table'
+      → Reached log end old callers' chains' table' next count' (i + 1)
   reached-next e f noted = record {
     whole = reached .whole;
     along = along-next (reached .along) below e f;
@@ -60,7 +60,7 @@ module _ {log : List ℕ} {end : ℕ} {old callers recent table : List ℕ} {at 
         (along-here (reached .along) below e f) (reached .filled);
   }
 
-pub reached-end : {log : List ℕ} {end : ℕ} {old callers recent table : List ℕ} {at count i : ℕ} → Reached log end old callers recent table at count i → end ≤ i → Tabulated (readLog log) old table
+pub reached-end : {log : List ℕ} {end : ℕ} {old callers chains table : List ℕ} {at count i : ℕ} → Reached log end old callers chains table at count i → end ≤ i → Tabulated (readLog log) old table
 reached-end {log} {i = i} reached l =
     let last : i ≡ length (reached .whole .records) = omega (arith, reached .along .within, reached .whole .counted) in
     rw (reached .whole .reads) (filled-all (rw last at (reached .filled)))

@@ -5,10 +5,10 @@ use native.Mathlib.Decide.{decLt}
 use mathlib.Core.Path.{_≡_, refl, sym, ap, _∙_}
 use mathlib.Core.List.{List}
 use lib.ListN.{length, getD, set, take}
-use lib.Seq.{length-take-le, getD-set-same, getD-set-other}
+use lib.Seq.{length-take-le}
 use Rattle.record.specs.declared.record.Record.{Record}
 use Rattle.map.specs.Map.{Linked, Latest}
-use Rattle.map.proofs.Laws.{newKeys, newChains, new-linked}
+use Rattle.map.proofs.Laws.{newKeys, newChains, new-linked, key-new, key-old}
 use Rattle.reader.specs.Log.{maxRecords, isCall, operations}
 use Rattle.reader.specs.Readable.{recordOf, Next, Regular}
 use Rattle.reader.proofs.Laws.{few-operations}
@@ -29,23 +29,26 @@ traced-none records = record {
 }
 
 -- there is room for one operation more
-pub traced-room : {records : List Record} {n count : ℕ} {callers recent : List ℕ} → n < length records → length records ≤ maxRecords
-    → Traced records n count callers recent → CallersRoom count callers recent
+pub traced-room : {records : List Record} {n count : ℕ} {callers chains : List ℕ} → n < length records → length records ≤ maxRecords
+    → Traced records n count callers chains → CallersRoom count callers chains
 traced-room {records} {n} {count} h few traced =
     let called : count ≤ n = omega (arith, traced .counted, few-operations (take n records), length-take-le n records (omega arith)) in
     record { count-small = omega arith; linked = traced .linked }
 
 -- one record more, which is a call
-module _ {records : List Record} {n count : ℕ} {callers recent callers' recent' : List ℕ} (h : n < length records) (c : isCall (recordOf records n .event) ≡ 1)
-    (traced : Traced records n count callers recent) (few : count < maxRecords) (noted : callers' ≡ set callers count (recordOf records n .client)) (linked : Linked callers' recent' (count + 1)) where
+module _ {records : List Record} {n count : ℕ} {callers chains callers' chains' : List ℕ} (h : n < length records) (c : isCall (recordOf records n .event) ≡ 1)
+    (traced : Traced records n count callers chains) (few : count < maxRecords)
+    (noted : callers' ≡ set callers count (recordOf records n .client)) (linked : Linked callers' chains' (count + 1)) where
   -- the new operation's client is that of the record, and the others are as they were
   new : getD callers' count 0 ≡ recordOf records (callIndex records count) .client
-  new = rw (noted, traced .counted, index-of-rank records n h c, ← traced .counted) (getD-set-same callers count (recordOf records n .client) 0 (omega (arith, traced .linked .keys-sized)))
+  new =
+      rw (traced .counted, index-of-rank records n h c, ← traced .counted)
+      (key-new callers count (recordOf records n .client) noted (omega (arith, traced .linked .keys-sized)))
 
   old : (o : ℕ) → o < count → getD callers' o 0 ≡ recordOf records (callIndex records o) .client
-  old o l = rw noted (getD-set-other callers count o (recordOf records n .client) 0 (λ e. omega arith) ∙ traced .clients-are o l)
+  old o l = key-old callers count (recordOf records n .client) noted o l ∙ traced .clients-are o l
 
-  traced-call : Traced records (n + 1) (count + 1) callers' recent'
+  traced-call : Traced records (n + 1) (count + 1) callers' chains'
   traced-call = record {
     counted = omega (arith, rank-step records n h, traced .counted);
     linked = linked;
@@ -54,7 +57,7 @@ module _ {records : List Record} {n count : ℕ} {callers recent callers' recent
 
 -- one record more, which is a return
 module _ {records : List Record} (regular : Regular records) {n : ℕ} (h : n < length records) (c : isCall (recordOf records n .event) ≡ 0)
-    {count : ℕ} {callers recent : List ℕ} (traced : Traced records n count callers recent) where
+    {count : ℕ} {callers chains : List ℕ} (traced : Traced records n count callers chains) where
   return-is-latest : {o : ℕ} → Latest callers count (recordOf records n .client) o → o ≡ operationAt records n
   return-is-latest {o} latest = go (call-before regular n h c)
     where
@@ -81,7 +84,7 @@ module _ {records : List Record} (regular : Regular records) {n : ℕ} (h : n < 
               (sym (traced .clients-are o (found .0)) ∙ latest .holds (found .0) ∙ next .same))
           by found (no m) = omega (arith, operation-answered regular i n next call)
 
-  traced-return : Traced records (n + 1) count callers recent
+  traced-return : Traced records (n + 1) count callers chains
   traced-return = record {
     counted = omega (arith, rank-step records n h, traced .counted);
     linked = traced .linked;
@@ -89,8 +92,9 @@ module _ {records : List Record} (regular : Regular records) {n : ℕ} (h : n < 
   }
 
 -- the operation of a call is found, and that of a return
-pub owned-call : (r : Record) {count : ℕ} {callers recent callers' recent' : List ℕ} → (isCall (r .event) ≡ 0 → ⊥) → count < maxRecords
-    → callers' ≡ set callers count (r .client) → Linked callers' recent' (count + 1) → Owned r count callers recent (record { operation = count; count = count + 1 }) callers' recent'
+pub owned-call : (r : Record) {count : ℕ} {callers chains callers' chains' : List ℕ} → (isCall (r .event) ≡ 0 → ⊥) → count < maxRecords
+    → callers' ≡ set callers count (r .client) → Linked callers' chains' (count + 1)
+    → Owned r count callers chains (record { operation = count; count = count + 1 }) callers' chains'
 owned-call r c few noted linked = record {
   small = few;
   is = λ records n regular h here traced. traced .counted ∙ sym (operation-called records n h (call here));
@@ -100,8 +104,8 @@ owned-call r c few noted linked = record {
     call : {q : Record} → q ≡ r → isCall (q .event) ≡ 1
     call here = rw here (omega (arith, isCall-small (r .event)))
 
-pub owned-return : (r : Record) {count o : ℕ} {callers recent : List ℕ} → isCall (r .event) ≡ 0 → count < maxRecords → Latest callers count (r .client) o
-    → Owned r count callers recent (record { operation = o; count = count }) callers recent
+pub owned-return : (r : Record) {count o : ℕ} {callers chains : List ℕ} → isCall (r .event) ≡ 0 → count < maxRecords → Latest callers count (r .client) o
+    → Owned r count callers chains (record { operation = o; count = count }) callers chains
 owned-return r c few latest = record {
   small = omega (arith, latest .within);
   is = λ records n regular h here traced. return-is-latest regular h (rw here c) traced (rw here latest);

@@ -19,17 +19,17 @@ use Rattle.history.proofs.Along.{Along, along-start, along-found, along
 use Rattle.history.proofs.Tracing.{traced-none, traced-room}
 
 -- The loop has come to record i.
-pub record Walking (log : List ℕ) (end : ℕ) (callers recent : List ℕ) (at count i : ℕ) : Type 0 where
+pub record Walking (log : List ℕ) (end : ℕ) (callers chains : List ℕ) (at count i : ℕ) : Type 0 where
   -- of a readable log, which stands at this offset
   pub whole : Whole log end
   pub along : Along log (whole .records) at i
   -- the callers in the records before it are noted
-  pub traced : Traced (whole .records) i count callers recent
+  pub traced : Traced (whole .records) i count callers chains
 
 abbrev pub walking-starts : {log : List ℕ} {end : ℕ} → Whole log end → Walking log end newKeys newChains headerLength 0 0
 walking-starts whole = record { whole = whole; along = along-start whole; traced = traced-none (whole .records) }
 
-module _ {log callers recent : List ℕ} {end at count i : ℕ} (walking : Walking log end callers recent at count i) where
+module _ {log callers chains : List ℕ} {end at count i : ℕ} (walking : Walking log end callers chains at count i) where
   pub walking-regular : Regular (walking .whole .records)
   walking-regular = walking .along .readable .partial .regular
 
@@ -45,11 +45,11 @@ module _ {log callers recent : List ℕ} {end at count i : ℕ} (walking : Walki
     walking-found = along-found (walking .along) walking-below
 
     -- and room for its caller
-    pub walking-room : CallersRoom count callers recent
+    pub walking-room : CallersRoom count callers chains
     walking-room = traced-room walking-below (walking-regular .few) (walking .traced)
 
     module _ {r : Record} {next : ℕ} {d : Decoded} (e : d ≡ decodeAt log at) (f : d ≡ Found r next)
-        {owner : Owner} {callers' recent' : List ℕ} (owned : Owned r count callers recent owner callers' recent') where
+        {owner : Owner} {callers' chains' : List ℕ} (owned : Owned r count callers chains owner callers' chains') where
       pub walking-here : recordOf (walking .whole .records) i ≡ r
       walking-here = along-here (walking .along) walking-below e f
 
@@ -57,7 +57,7 @@ module _ {log callers recent : List ℕ} {end at count i : ℕ} (walking : Walki
       pub walking-owner : owner .operation ≡ operationAt (walking .whole .records) i
       walking-owner = owned .is (walking .whole .records) i walking-regular walking-below walking-here (walking .traced)
 
-      abbrev pub walking-next : Walking log end callers' recent' next (owner .count) (i + 1)
+      abbrev pub walking-next : Walking log end callers' chains' next (owner .count) (i + 1)
       walking-next = record {
         whole = walking .whole;
         along = along-next (walking .along) walking-below e f;

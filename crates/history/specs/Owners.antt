@@ -13,22 +13,22 @@ use Rattle.history.specs.declared.owners.Owner.{Owner}
 
 -- The callers of the operations that the first n records call are noted: the keys of a map are the clients, so that a client's latest entry is its
 -- latest operation.
-pub record Traced (records : List Record) (n count : ℕ) (callers recent : List ℕ) : Type 0 where
+pub record Traced (records : List Record) (n count : ℕ) (callers chains : List ℕ) : Type 0 where
   -- there are so many
   pub counted : count ≡ operations (take n records)
-  pub linked : Linked callers recent count
+  pub linked : Linked callers chains count
   -- the client of each operation is that of its call
   pub clients-are : (o : ℕ) → o < count → getD callers o 0 ≡ recordOf records (callIndex records o) .client
 
 -- There is room for one operation more.
-pub record CallersRoom (count : ℕ) (callers recent : List ℕ) : Type 0 where
+pub record CallersRoom (count : ℕ) (callers chains : List ℕ) : Type 0 where
   pub count-small : count < maxRecords
-  pub linked : Linked callers recent count
+  pub linked : Linked callers chains count
 
 -- The operation of the record r is found, and its caller is noted if the record calls it.
-pub record Owned (r : Record) (count : ℕ) (callers recent : List ℕ) (owner : Owner) (callers' recent' : List ℕ) : Type 0 where
+pub record Owned (r : Record) (count : ℕ) (callers chains : List ℕ) (owner : Owner) (callers' chains' : List ℕ) : Type 0 where
   pub small : owner .operation < maxRecords
   pub is : (records : List Record) (n : ℕ) → Regular records → n < length records → recordOf records n ≡ r
-      → Traced records n count callers recent → owner .operation ≡ operationAt records n
+      → Traced records n count callers chains → owner .operation ≡ operationAt records n
   pub traced : (records : List Record) (n : ℕ) → Regular records → n < length records → recordOf records n ≡ r
-      → Traced records n count callers recent → Traced records (n + 1) (owner .count) callers' recent'
+      → Traced records n count callers chains → Traced records (n + 1) (owner .count) callers' chains'

@@ -81,8 +81,8 @@ Told records table o return ret =
 
 -- The tables hold what the first n records say: of each operation called by then its client and its call, its kind, value and
 -- return if it has returned by then, and otherwise what its call alone says.
-pub record Filled (records : List Record) (old : List ℕ) (n count : ℕ) (callers recent table : List ℕ) : Type 0 where
-  pub traced : Traced records n count callers recent
+pub record Filled (records : List Record) (old : List ℕ) (n count : ℕ) (callers chains table : List ℕ) : Type 0 where
+  pub traced : Traced records n count callers chains
   pub table-sized : length table ≡ tableLength
   pub untouched : Untouched count old table
   pub returned : (o : ℕ) → o < count → returnIndex records (callIndex records o) < n
@@ -91,16 +91,16 @@ pub record Filled (records : List Record) (old : List ℕ) (n count : ℕ) (call
   pub pending : (o : ℕ) → o < count → n ≤ returnIndex records (callIndex records o) → Told records table o CallRemove (length records)
 
 -- There is room for one record more.
-pub record Room (index count end : ℕ) (callers recent table : List ℕ) : Type 0 where
+pub record Room (index count end : ℕ) (callers chains table : List ℕ) : Type 0 where
   pub index-small : index < maxRecords
   pub end-small : end ≤ maxRecords
-  pub callers-room : CallersRoom count callers recent
+  pub callers-room : CallersRoom count callers chains
   pub table-sized : length table ≡ tableLength
 
 -- The tables hold one record more, r, which has this index.
-pub record Noted (r : Record) (index count end : ℕ) (callers recent table : List ℕ) (count' : ℕ) (callers' recent' table' : List ℕ) : Type 0 where
+pub record Noted (r : Record) (index count end : ℕ) (callers chains table : List ℕ) (count' : ℕ) (callers' chains' table' : List ℕ) : Type 0 where
   pub kept : (records : List Record) (old : List ℕ) → Regular records → length records ≡ end → index < end → recordOf records index ≡ r
-      → Filled records old index count callers recent table → Filled records old (index + 1) count' callers' recent' table'
+      → Filled records old index count callers chains table → Filled records old (index + 1) count' callers' chains' table'
 
 -- A log that is readable, of so many records.
 pub record Whole (log : List ℕ) (count : ℕ) : Type 0 where

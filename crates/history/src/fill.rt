@@ -20,10 +20,10 @@ use crate::operations::VALUE;
 use crate::operations::call_of;
 use crate::operations::value_of;
 use crate::owners::owner_of;
+use map::map::CHAINS;
 use map::map::Chains;
+use map::map::KEYS;
 use map::map::Keys;
-use map::map::LINKS;
-use map::map::SIZE;
 use reader::format::HEADER;
 use record::record::Decoded;
 use record::record::Event;
@@ -72,14 +72,14 @@ fn note(
     count: usize,
     end: usize,
     callers: &mut Keys,
-    recent: &mut Chains,
+    chains: &mut Chains,
     table: &mut Operations,
 ) -> usize
-    requires { ⌜ Room index count end (now callers) (now recent) (now table) ⌝ }
-    ensures { λ q. ⌜ Noted r index count end (now (callers .entry)) (now (recent .entry)) (now (table .entry)) q (now (callers .exit)) (now (recent .exit)) (now (table .exit)) ⌝ }
+    requires { ⌜ Room index count end (now callers) (now chains) (now table) ⌝ }
+    ensures { λ q. ⌜ Noted r index count end (now (callers .entry)) (now (chains .entry)) (now (table .entry)) q (now (callers .exit)) (now (chains .exit)) (now (table .exit)) ⌝ }
 {
     let event = r.event;
-    let owner = owner_of(r, count, callers, recent);
+    let owner = owner_of(r, count, callers, chains);
     let o = owner.operation;
     // A record's position is its index.
     let at = index as u32;
@@ -109,8 +109,8 @@ pub(crate) fn fill(log: &[u8], end: usize, table: &mut Operations)
     requires { ⌜ Whole (now log) end × (length (now table) ≡ tableLength) ⌝ }
     ensures { λ _. ⌜ Tabulated (readLog (now (log .entry))) (now (table .entry)) (now (table .exit)) ⌝ }
 {
-    let mut callers = [0u32; SIZE];
-    let mut recent = [0u16; LINKS];
+    let mut callers = [0u32; KEYS];
+    let mut chains = [0u16; CHAINS];
     let mut at = HEADER;
     let mut count = 0;
     let mut i = 0;
@@ -121,7 +121,7 @@ pub(crate) fn fill(log: &[u8], end: usize, table: &mut Operations)
                 return;
             }
             Decoded::Found { record, next } => {
-                count = note(record, i, count, end, &mut callers, &mut recent, table);
+                count = note(record, i, count, end, &mut callers, &mut chains, table);
                 at = next;
             }
         }

@@ -29,19 +29,19 @@ pub fn is_call(event: Event) -> usize
 }
 
 // Finds the operation of a record: a return's is the latest one of its client, and a call's is a new one, whose caller is then noted.
-pub fn owner_of(r: Record, count: usize, callers: &mut Keys, recent: &mut Chains) -> Owner
-    requires { ⌜ CallersRoom count (now callers) (now recent) ⌝ }
-    ensures { λ x. ⌜ Owned r count (now (callers .entry)) (now (recent .entry)) x (now (callers .exit)) (now (recent .exit)) ⌝ }
+pub fn owner_of(r: Record, count: usize, callers: &mut Keys, chains: &mut Chains) -> Owner
+    requires { ⌜ CallersRoom count (now callers) (now chains) ⌝ }
+    ensures { λ x. ⌜ Owned r count (now (callers .entry)) (now (chains .entry)) x (now (callers .exit)) (now (chains .exit)) ⌝ }
 {
     let client = r.client as u32;
     let event = r.event;
     if is_call(event) == 0 {
         return Owner {
-            operation: find(callers, recent, count, client),
+            operation: find(callers, chains, count, client),
             count,
         };
     }
-    push(callers, recent, count, client);
+    push(callers, chains, count, client);
     Owner {
         operation: count,
         count: count + 1,

@@ -2,11 +2,12 @@
 use Prim.Native.Nat.{ℕ, _+_, _-_, _≤_, _<_}
 use native.Mathlib.Omega.{arith}
 use native.Mathlib.Decide.{decLt, ℕ-discrete}
-use mathlib.Core.Path.{_≡_, sym, ap, _∙_}
+use mathlib.Core.Path.{_≡_, refl, sym, ap, _∙_}
 use mathlib.Core.List.{List}
-use lib.ListN.{getD, set, length-set}
+use lib.ListN.{length, getD, set, length-set}
 use lib.Seq.{getD-set-same, getD-set-other}
 use Rattle.map.specs.Map.{mapSize, slotCount, slotOf, Top, Linked, Latest}
+use Rattle.map.proofs.Laws.{key-new, key-old}
 
 -- The search for x along its chain has come to n: no entry from there on holds x, and the one below n, if there is one, has its slot.
 pub record Unmet (keys : List ℕ) (count x n : ℕ) : Type 0 where
@@ -65,63 +66,72 @@ module _ {keys chains : List ℕ} {count : ℕ} (x : ℕ) (linked : Linked keys 
   abbrev keys' : List ℕ
   keys' = set keys count x
 
-  abbrev chains' : List ℕ
-  chains' = set (set chains (slotCount + count) (getD chains slot 0)) slot (count + 1)
+  -- the chains once the link is set, and once the slot is too
+  abbrev chains₁ : List ℕ
+  chains₁ = set chains (slotCount + count) (getD chains slot 0)
+
+  abbrev chains₂ : List ℕ
+  chains₂ = set chains₁ slot (count + 1)
 
   slot-small : slot < slotCount
   slot-small = omega arith
 
-  key-new : getD keys' count 0 ≡ x
-  key-new = getD-set-same keys count x 0 (omega (arith, linked .keys-sized))
+  new : getD keys' count 0 ≡ x
+  new = key-new keys count x refl (omega (arith, linked .keys-sized))
 
-  key-old : (p : ℕ) → p < count → getD keys' p 0 ≡ getD keys p 0
-  key-old p l = getD-set-other keys count p x 0 (λ e. omega arith)
+  old : (p : ℕ) → p < count → getD keys' p 0 ≡ getD keys p 0
+  old = key-old keys count x refl
 
-  slot-new : getD chains' slot 0 ≡ count + 1
-  slot-new = getD-set-same (set chains (slotCount + count) (getD chains slot 0)) slot (count + 1) 0 (omega (arith, slot-small, length-set chains (slotCount + count) (getD chains slot 0), linked .chains-sized))
+  sized : length chains₁ ≡ slotCount + mapSize
+  sized = length-set chains (slotCount + count) (getD chains slot 0) ∙ linked .chains-sized
 
-  -- elsewhere but behind the slots
-  link-at : (i : ℕ) → getD chains' (slotCount + i) 0 ≡ getD (set chains (slotCount + count) (getD chains slot 0)) (slotCount + i) 0
-  link-at i = getD-set-other (set chains (slotCount + count) (getD chains slot 0)) slot (slotCount + i) (count + 1) 0 (λ e. omega (arith, slot-small))
+  slot-new : getD chains₂ slot 0 ≡ count + 1
+  slot-new = getD-set-same chains₁ slot (count + 1) 0 (omega (arith, slot-small, sized))
 
-  link-new : getD chains' (slotCount + count) 0 ≡ getD chains slot 0
+  slot-old : (s : ℕ) → s < slotCount → (s ≡ slot → ⊥) → getD chains₂ s 0 ≡ getD chains s 0
+  slot-old s l d = getD-set-other chains₁ slot s (count + 1) 0 d ∙ getD-set-other chains (slotCount + count) s (getD chains slot 0) 0 (λ e. omega arith)
+
+  -- links stand after the slots
+  link-at : (i : ℕ) → getD chains₂ (slotCount + i) 0 ≡ getD chains₁ (slotCount + i) 0
+  link-at i = getD-set-other chains₁ slot (slotCount + i) (count + 1) 0 (λ e. omega (arith, slot-small))
+
+  link-new : getD chains₂ (slotCount + count) 0 ≡ getD chains slot 0
   link-new = link-at count ∙ getD-set-same chains (slotCount + count) (getD chains slot 0) 0 (omega (arith, linked .chains-sized))
 
-  link-old : (i : ℕ) → i < count → getD chains' (slotCount + i) 0 ≡ getD chains (slotCount + i) 0
+  link-old : (i : ℕ) → i < count → getD chains₂ (slotCount + i) 0 ≡ getD chains (slotCount + i) 0
   link-old i l = link-at i ∙ getD-set-other chains (slotCount + count) (slotCount + i) (getD chains slot 0) 0 (λ e. omega arith)
 
-  slot-old : (s : ℕ) → s < slotCount → (s ≡ slot → ⊥) → getD chains' s 0 ≡ getD chains s 0
-  slot-old s l d = getD-set-other (set chains (slotCount + count) (getD chains slot 0)) slot s (count + 1) 0 d ∙ getD-set-other chains (slotCount + count) s (getD chains slot 0) 0 (λ e. omega arith)
-
-  top-more : (s : ℕ) → s < slotCount → Dec (s ≡ slot) → Top keys' (count + 1) s (getD chains' s 0)
+  top-more : (s : ℕ) → s < slotCount → Dec (s ≡ slot) → Top keys' (count + 1) s (getD chains₂ s 0)
   top-more s l (yes e) = rw (e, slot-new) (record {
     within = omega arith;
     above = λ p b same. b;
-    shares = λ some. let last : count + 1 - 1 ≡ count = omega arith in rw last (ap slotOf key-new);
+    shares = λ some. let last : count + 1 - 1 ≡ count = omega arith in rw last (ap slotOf new);
   })
   top-more s l (no d) =
       let top = linked .tops s l in
       rw (slot-old s l d) (record {
         within = omega (arith, top .within);
         above = λ p b same. by p b same (decLt p count);
-        shares = λ some. ap slotOf (key-old (getD chains s 0 - 1) (omega (arith, top .within))) ∙ top .shares some;
+        shares = λ some. ap slotOf (old (getD chains s 0 - 1) (omega (arith, top .within))) ∙ top .shares some;
       })
     where
       by : (p : ℕ) → p < count + 1 → slotOf (getD keys' p 0) ≡ s → Dec (p < count) → p < getD chains s 0
-      by p b same (yes old) = linked .tops s l .above p old (ap slotOf (sym (key-old p old)) ∙ same)
-      by p b same (no new) = let e : p ≡ count = omega arith in absurd (d (sym same ∙ ap (λ q. slotOf (getD keys' q 0)) e ∙ ap slotOf key-new))
+      by p b same (yes h) = linked .tops s l .above p h (ap slotOf (sym (old p h)) ∙ same)
+      by p b same (no h) =
+          let e : p ≡ count = omega arith in
+          absurd (d (sym same ∙ ap (λ q. slotOf (getD keys' q 0)) e ∙ ap slotOf new))
 
-  link-more : (i : ℕ) → i < count + 1 → Dec (i < count) → Top keys' i (slotOf (getD keys' i 0)) (getD chains' (slotCount + i) 0)
-  link-more i l (yes old) = rw (key-old i old, link-old i old) (top-same (λ p b. key-old p (omega arith)) (linked .links i old))
-  link-more i l (no new) =
+  link-more : (i : ℕ) → i < count + 1 → Dec (i < count) → Top keys' i (slotOf (getD keys' i 0)) (getD chains₂ (slotCount + i) 0)
+  link-more i l (yes h) = rw (old i h, link-old i h) (top-same (λ p b. old p (omega arith)) (linked .links i h))
+  link-more i l (no h) =
       let e : i ≡ count = omega arith in
-      rw (e, key-new, link-new) (top-same key-old (linked .tops slot slot-small))
+      rw (e, new, link-new) (top-same old (linked .tops slot slot-small))
 
-  pub linked-more : Linked keys' chains' (count + 1)
+  pub linked-more : Linked keys' chains₂ (count + 1)
   linked-more = record {
     within = omega arith;
     keys-sized = length-set keys count x ∙ linked .keys-sized;
-    chains-sized = length-set (set chains (slotCount + count) (getD chains slot 0)) slot (count + 1) ∙ length-set chains (slotCount + count) (getD chains slot 0) ∙ linked .chains-sized;
+    chains-sized = length-set chains₁ slot (count + 1) ∙ sized;
     tops = λ s l. top-more s l (ℕ-discrete s slot);
     links = λ i l. link-more i l (decLt i count);
   }

@@ -4,12 +4,12 @@ use native.Mathlib.Omega.{arith}
 use native.Mathlib.Decide.{decLt}
 use mathlib.Core.Path.{_≡_, sym, _∙_}
 use mathlib.Core.List.{List}
-use lib.ListN.{length, getD, replicate, take, length-replicate}
-use lib.Seq.{getD-take, length-take-le}
+use lib.ListN.{length, getD, set, replicate, take, length-replicate}
+use lib.Seq.{getD-take, getD-set-same, getD-set-other}
 use lib.Dec.{ltb}
 use borrow.Author.Tests.{lt-ltb, le-ltb}
 use Rattle.table.specs.Table.{isIn, position}
-use Rattle.table.proofs.Lists.{zeros, isIn-at, isIn-nowhere, position-first, position-nowhere}
+use Rattle.table.proofs.Lists.{used, zeros, isIn-at, isIn-nowhere, position-first, position-nowhere}
 use Rattle.map.specs.Map.{mapSize, slotCount, Linked, Latest}
 
 -- the arrays of a new map, which has no entries
@@ -28,23 +28,31 @@ new-linked = record {
   links = λ i l. absurd (omega arith);
 }
 
+-- a key that is put in stands after those in use, which stay as they were
+module _ (keys : List ℕ) (count x : ℕ) {keys' : List ℕ} (put : keys' ≡ set keys count x) where
+  pub key-new : count < length keys → getD keys' count 0 ≡ x
+  key-new room = rw put (getD-set-same keys count x 0 room)
+
+  pub key-old : (p : ℕ) → p < count → getD keys' p 0 ≡ getD keys p 0
+  key-old p l = rw put (getD-set-other keys count p x 0 (λ e. omega arith))
+
 module _ {keys : List ℕ} {count x r : ℕ} (long : count ≤ length keys) (latest : Latest keys count x r) where
-  used : length (take count keys) ≡ count
-  used = length-take-le count keys long
+  in-use : length (take count keys) ≡ count
+  in-use = used keys count long
 
   -- an entry below the count that holds x is one of the list of the entries in use
   at : (p : ℕ) → p < count → getD keys p 0 ≡ x → getD (take count keys) p 0 ≡ x
   at p l e = getD-take count keys p 0 l ∙ e
 
   below : (p : ℕ) → p < length (take count keys) → getD (take count keys) p 0 ≡ x → (r < count) × (p ≤ r)
-  below p l e = let h : p < count = omega (arith, used) in latest .last p h (sym (getD-take count keys p 0 h) ∙ e)
+  below p l e = let h : p < count = omega (arith, in-use) in latest .last p h (sym (getD-take count keys p 0 h) ∙ e)
 
   -- `find` finds an entry exactly if x is among the keys
   pub latest-isIn : ltb r count ≡ isIn x (take count keys)
   latest-isIn = by (decLt r count)
     where
       by : Dec (r < count) → ltb r count ≡ isIn x (take count keys)
-      by (yes l) = lt-ltb r count l ∙ sym (isIn-at x (take count keys) r (omega (arith, used)) (at r l (latest .holds l)))
+      by (yes l) = lt-ltb r count l ∙ sym (isIn-at x (take count keys) r (omega (arith, in-use)) (at r l (latest .holds l)))
       by (no n) = le-ltb r count (omega arith) ∙ sym (isIn-nowhere x (take count keys) (λ p l e. n (below p l e .0)))
 
   -- where no key is held twice, `find` answers what `find` of a table does
@@ -55,5 +63,5 @@ module _ {keys : List ℕ} {count x r : ℕ} (long : count ≤ length keys) (lat
       first l p b e = omega (arith, distinct p r (omega arith) l (sym (getD-take count keys p 0 (omega arith)) ∙ e ∙ sym (latest .holds l)))
 
       by : Dec (r < count) → r ≡ position x (take count keys)
-      by (yes l) = sym (position-first x (take count keys) r (omega (arith, used)) (at r l (latest .holds l)) (first l))
-      by (no n) = omega (arith, used, latest .within, position-nowhere x (take count keys) (λ p l e. n (below p l e .0)))
+      by (yes l) = sym (position-first x (take count keys) r (omega (arith, in-use)) (at r l (latest .holds l)) (first l))
+      by (no n) = omega (arith, in-use, latest .within, position-nowhere x (take count keys) (λ p l e. n (below p l e .0)))

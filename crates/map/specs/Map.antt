@@ -17,11 +17,11 @@ pub record Latest (keys : List ℕ) (count x r : ℕ) : Type 0 where
 abbrev pub slotCount : ℕ
 slotCount = 512
 
--- the slot of a key
+-- the slot of a key: bits 23 to 31 of its product with a prime near 2^32 divided by the golden ratio
 abbrev pub slotOf : ℕ → ℕ
 slotOf x = x * 2654435761 / 8388608 % slotCount
 
--- n is 1 above the latest of the first `count` entries that has a slot, and 0 if none has it.
+-- n is the index plus 1 of the latest of the first `count` entries that has a slot, or 0 if none has it.
 pub record Top (keys : List ℕ) (count slot n : ℕ) : Type 0 where
   pub within : n ≤ count
   pub above : (p : ℕ) → p < count → slotOf (getD keys p 0) ≡ slot → p < n

@@ -6,23 +6,28 @@ ghost use lib.ListN.{set};
 ghost use Rattle.map.specs.Map.{slotCount, mapSize, slotOf, Linked, Latest};
 
 // As many entries as a log may have records.
-pub const SIZE: usize = 1024;
+pub const KEYS: usize = 1024;
 
-pub type Keys = [u32; SIZE];
+pub type Keys = [u32; KEYS];
 
 const SLOTS: usize = 512;
 
-pub const LINKS: usize = SLOTS + SIZE;
+pub const CHAINS: usize = SLOTS + KEYS;
 
-// For each slot its latest entry, and behind these for each entry the one before it in its slot: numbers 1 above an entry, or 0 where there
-// is none.
-pub type Chains = [u16; LINKS];
+// For each slot its latest entry, then for each entry the one before it in its slot: the entry's index plus 1, or 0 for none.
+pub type Chains = [u16; CHAINS];
 
-// The slot of a key: nine bits of its product with 2^32 divided by the golden ratio, in which keys that are close to each other differ.
+// A prime near 2^32 divided by the golden ratio.
+const FACTOR: u64 = 2654435761;
+
+// 2^23: the slot is the nine bits above.
+const CUT: u64 = 8388608;
+
+// The slot of a key: bits 23 to 31 of its product with the factor, in which keys that are close to each other differ.
 fn slot_of(x: u32) -> usize
     ensures { λ r. ⌜ (r ≡ slotOf x) × (r < slotCount) ⌝ }
 {
-    (x as u64 * 2654435761 / 8388608) as usize % SLOTS
+    (x as u64 * FACTOR / CUT) as usize % SLOTS
 }
 
 // The latest entry that holds x, or `count` where there is none.
@@ -41,7 +46,7 @@ pub fn find(keys: &Keys, chains: &Chains, count: usize, x: u32) -> usize
     count
 }
 
-// Puts x behind the entries in use.
+// Puts x after the entries in use.
 pub fn push(keys: &mut Keys, chains: &mut Chains, count: usize, x: u32)
     requires { ⌜ (count < mapSize) × Linked (now keys) (now chains) count ⌝ }
     ensures { λ _. ⌜ (now (keys .exit) ≡ set (now (keys .entry)) count x) × Linked (now (keys .exit)) (now (chains .exit)) (count + 1) ⌝ }

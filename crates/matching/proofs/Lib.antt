@@ -3,7 +3,7 @@ pub mod Holding
 pub mod Mapping
 pub mod Matching
 pub mod Numbers
-pub mod Opening
+pub mod Returning
 pub mod Partnering
 pub mod Reaching
 pub mod Storing

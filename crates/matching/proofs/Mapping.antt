@@ -4,8 +4,8 @@ use native.Mathlib.Omega.{arith}
 use mathlib.Core.Path.{_≡_, refl, sym, ap, _∙_}
 use mathlib.Core.List.{List}
 use lib.ListN.{length, getD, set, length-set}
-use lib.Seq.{getD-set-same, getD-set-other}
 use Rattle.map.specs.Map.{Linked, Latest}
+use Rattle.map.proofs.Laws.{key-new, key-old}
 use Rattle.reader.specs.Log.{maxRecords}
 use Rattle.history.specs.History.{add}
 use Rattle.history.specs.Table.{kindAt, valueAt}
@@ -27,25 +27,28 @@ module _ {table : List ℕ} {m n : ℕ} {values chains adds : List ℕ} (mapped 
   }
 
   -- operation m is an add, and its value is put in
-  module _ (room : m < maxRecords) (k : kindAt table m ≡ add) {values' chains' : List ℕ} (put : values' ≡ set values n (valueAt table m)) (linked' : Linked values' chains' (n + 1)) where
+  module _ (room : m < maxRecords) (k : kindAt table m ≡ add) {values' chains' : List ℕ}
+      (put : values' ≡ set values n (valueAt table m)) (linked' : Linked values' chains' (n + 1)) where
     value-new : getD values' n 0 ≡ valueAt table m
-    value-new = rw put (getD-set-same values n (valueAt table m) 0 (omega (arith, mapped .linked .keys-sized, mapped .within)))
+    value-new = key-new values n (valueAt table m) put (omega (arith, mapped .linked .keys-sized, mapped .within))
 
     value-old : (i : ℕ) → i < n → getD values' i 0 ≡ getD values i 0
-    value-old i l = rw put (getD-set-other values n i (valueAt table m) 0 (λ e. omega arith))
+    value-old = key-old values n (valueAt table m) put
 
     add-new : getD (set adds n m) n 0 ≡ m
-    add-new = getD-set-same adds n m 0 (omega (arith, mapped .sized, mapped .within))
+    add-new = key-new adds n m refl (omega (arith, mapped .sized, mapped .within))
 
     add-old : (i : ℕ) → i < n → getD (set adds n m) i 0 ≡ getD adds i 0
-    add-old i l = getD-set-other adds n i m 0 (λ e. omega arith)
+    add-old = key-old adds n m refl
 
     pub mapped-more : AddsMapped table (m + 1) (n + 1) values' chains' (set adds n m)
     mapped-more = record {
       linked = linked';
       sized = length-set adds n m ∙ mapped .sized;
       within = omega (arith, mapped .within);
-      are = up-to (λ i l. rw (value-old i l, add-old i l) (let (below, of) = mapped .are i l in (omega arith, of))) (rw (value-new, add-new) (omega arith, record { adds = k; values = refl }));
+      are = up-to
+          (λ i l. rw (value-old i l, add-old i l) (let (below, of) = mapped .are i l in (omega arith, of)))
+          (rw (value-new, add-new) (omega arith, record { adds = k; values = refl }));
       all = up-to (λ a l b. let (i, h, e) = mapped .all a l b in (i, omega arith, add-old i h ∙ e)) (λ b. (n, omega arith, add-new));
     }
 

@@ -16,12 +16,13 @@ Larger a b r = (a ≤ r) × (b ≤ r) × ((r ≡ a) ⊎ (r ≡ b))
 
 -- there is no number from the last on
 pub least-starts : {f : ℕ → ℕ} {none count : ℕ} → LeastFrom f none count count none
-least-starts = record { below = λ o b l. absurd (omega arith); met = inl refl }
+least-starts = record { within = omega arith; below = λ o b l. absurd (omega arith); met = inl refl }
 
 -- the least from one number more on
 pub least-back : {f : ℕ → ℕ} {none count n x y : ℕ} → 0 < n → n ≤ count → LeastFrom f none count n x → Smaller (f (n - 1)) x y
     → LeastFrom f none count (n - 1) y
 least-back {f} {none} {count} {n} {x} {y} some within least (here, there, one) = record {
+  within = omega (arith, least .within);
   below = λ o b l. below o b l (ℕ-discrete o (n - 1));
   met = met one (least .met);
 }

@@ -9,7 +9,8 @@ pub record First (P : ℕ → Type 0) (count r : ℕ) : Type 0 where
   pub holds : r < count → P r
   pub none-lower : (m : ℕ) → m < r → P m → ⊥
 
--- x is the least that f makes of the numbers from n on, below `count`, or `none` if nothing below that is met.
+-- x is the least value of f over the numbers from n on, below `count`, or `none` if no value is below that.
 pub record LeastFrom (f : ℕ → ℕ) (none count n x : ℕ) : Type 0 where
+  pub within : x ≤ none
   pub below : (o : ℕ) → n ≤ o → o < count → x ≤ f o
   pub met : (x ≡ none) ⊎ ((o : ℕ) × (n ≤ o) × (o < count) × (f o ≡ x))

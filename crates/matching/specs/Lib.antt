@@ -1,5 +1,5 @@
 pub mod Answers
 pub mod Held
 pub mod Matching
-pub mod Opened
+pub mod Returns
 pub mod Reaches

@@ -10,19 +10,17 @@ use history::operations::Operations;
 use history::operations::REMOVE;
 use history::operations::kind_of;
 use history::operations::value_of;
+use map::map::CHAINS;
 use map::map::Chains;
+use map::map::KEYS;
 use map::map::Keys;
-use map::map::LINKS;
-use map::map::SIZE;
 use map::map::find;
 use map::map::push;
 use reader::format::MAX_RECORDS;
+use table::table::Table;
 
 // A number for each operation.
 pub type Numbers = [u32; MAX_RECORDS];
-
-// A list of operations that has room for all.
-type Listed = [u16; MAX_RECORDS];
 
 // Puts the values of the adds into a map, and lists the adds: the one at an index of the list has the value of that entry. Answers how many
 // there are.
@@ -31,7 +29,7 @@ fn map_adds(
     count: usize,
     values: &mut Keys,
     chains: &mut Chains,
-    adds: &mut Listed,
+    adds: &mut Table,
 ) -> usize
     requires { ⌜ (count ≤ maxRecords) × Linked (now values) (now chains) 0 × (length (now adds) ≡ maxRecords) ⌝ }
     ensures { λ n. ⌜ AddsMapped (now (table .entry)) count n (now (values .exit)) (now (chains .exit)) (now (adds .exit)) ⌝ }
@@ -55,7 +53,7 @@ fn match_value(
     count: usize,
     values: &Keys,
     chains: &Chains,
-    adds: &Listed,
+    adds: &Table,
     n: usize,
     r: usize,
     partner: &mut Numbers,
@@ -80,8 +78,8 @@ pub fn match_values(table: &Operations, count: usize, partner: &mut Numbers)
     requires { ⌜ (count ≤ maxRecords) × AddedOnce (now table) count × Cleared (now partner) ⌝ }
     ensures { λ _. ⌜ Partners (now (table .entry)) count (now (partner .exit)) ⌝ }
 {
-    let mut values = [0u32; SIZE];
-    let mut chains = [0u16; LINKS];
+    let mut values = [0u32; KEYS];
+    let mut chains = [0u16; CHAINS];
     let mut adds = [0u16; MAX_RECORDS];
     let n = map_adds(table, count, &mut values, &mut chains, &mut adds);
     let mut r = 0;

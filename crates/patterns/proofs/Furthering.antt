@@ -10,16 +10,16 @@ use Rattle.reader.specs.Log.{maxRecords}
 use Rattle.history.specs.History.{History, add}
 use Rattle.violations.specs.Violations.{Is, Covers, Covered, Furthest}
 use Rattle.matching.specs.Held.{Held}
-use Rattle.matching.specs.Opened.{Opened}
+use Rattle.matching.specs.Returns.{ReturnsNoted}
 use Rattle.matching.specs.Reaches.{reachAt}
 use Rattle.matching.proofs.Numbers.{Larger}
-use Rattle.matching.proofs.Opening.{Highest, highest-starts, highest-more, highest-on}
+use Rattle.matching.proofs.Returning.{Highest, highest-starts, highest-more, highest-on}
 use Rattle.patterns.specs.Chains.{RanksNoted, NextNoted}
 
 -- The values whose adds return below position `from` were tried for a gap, by which they have returned, and `best` is the highest rank among them.
 pub record Tried (h : History) (noted : List ℕ) (gap from best : ℕ) : Type 0 where
   pub returned : from ≤ gap + 1
-  pub highest : (rank : List ℕ) → Opened h rank (h .count) noted → Highest h rank from best
+  pub highest : (rank : List ℕ) → ReturnsNoted h rank (h .count) noted → Highest h rank from best
 
 -- none yet
 pub tried-none : {h : History} {noted : List ℕ} {gap : ℕ} → Tried h noted gap 0 0
@@ -41,7 +41,7 @@ module _ {h : History} {noted : List ℕ} {gap from best : ℕ} (tried : Tried h
     }
 
     -- it does not
-    pub tried-all : gap < x → {rank : List ℕ} → Opened h rank (h .count) noted → Highest h rank (gap + 1) best
+    pub tried-all : gap < x → {rank : List ℕ} → ReturnsNoted h rank (h .count) noted → Highest h rank (gap + 1) best
     tried-all l all = highest-on all (tried .highest _ all) (tried .returned) (omega arith) (λ g b m. next .none-before g b (omega arith))
 
 -- how far a value of this rank reaches, and of which add it is

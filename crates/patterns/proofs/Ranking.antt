@@ -30,9 +30,10 @@ module _ {end : ℕ} {noted : List ℕ} {p : ℕ} where
   -- the position before p is the first one if something is noted there, or else that from p on is
   pub next-back : {x y : ℕ} → NextNoted end noted p x → 0 < p
       → ((0 < getD noted (p - 1) 0) × (y ≡ p - 1)) ⊎ ((getD noted (p - 1) 0 ≤ 0) × (y ≡ x)) → NextNoted end noted (p - 1) y
-  next-back later l (inl (some, e)) = rw e (record { from = omega arith; none-before = λ g b m. absurd (omega arith); there = inr some })
+  next-back later l (inl (some, e)) = rw e (record { from = omega arith; within = omega (arith, later .from, later .within); none-before = λ g b m. absurd (omega arith); there = inr some })
   next-back {x} later l (inr (none, e)) = rw e (record {
     from = omega (arith, later .from);
+    within = later .within;
     none-before = λ g b m. at g b m (ℕ-discrete g (p - 1));
     there = later .there;
   })

@@ -33,7 +33,8 @@ pub record Blocking (table : List ℕ) (count : ℕ) (partner reach : List ℕ) 
 abbrev pub removalBy : History → List ℕ → ℕ → ℕ
 removalBy h partner b = if eqb (h .kind b) add then (if eqb (partnerAt partner b) 0 then h .end else h .ret (partnerAt partner b - 1)) else h .end
 
--- x is the soonest return of a remove whose add is called from position p on, or the end if there is none.
+-- x is the soonest return of a remove whose add is called from position p on, or the end if there is none. (Operations are numbered in the order
+-- of their calls, so those from the first of these on are all that are called from p on.)
 pub record Soonest (h : History) (partner : List ℕ) (p x : ℕ) : Type 0 where
   -- the first operation called from there on
   pub from : ℕ

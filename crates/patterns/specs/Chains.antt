@@ -7,7 +7,7 @@ use lib.ListN.{length, getD, take}
 use Rattle.reader.specs.Log.{maxRecords}
 use Rattle.history.specs.History.{History, add, emptyRemove}
 use Rattle.violations.specs.Violations.{Is, AllCovered, Chain, FalseEmpty}
-use Rattle.matching.specs.Opened.{Opened}
+use Rattle.matching.specs.Returns.{ReturnsNoted}
 use Rattle.matching.specs.Reaches.{reachAt, Reaching}
 
 -- how an add ranks: by how far its value reaches, and of several that reach equally far, the lowest add ranks highest
@@ -25,11 +25,12 @@ pub record RanksNoted (h : History) (noted : List ℕ) : Type 0 where
   pub reaching : Reaching h reach
   pub rank : List ℕ
   pub ranked : Ranked h reach (h .count) rank
-  pub opened : Opened h rank (h .count) noted
+  pub returns : ReturnsNoted h rank (h .count) noted
 
 -- x is the first position from p on at which something is noted, or the end
 pub record NextNoted (end : ℕ) (noted : List ℕ) (p x : ℕ) : Type 0 where
   pub from : p ≤ x
+  pub within : x ≤ end
   pub none-before : (g : ℕ) → p ≤ g → g < x → getD noted g 0 ≡ 0
   pub there : (x ≡ end) ⊎ (0 < getD noted x 0)
 

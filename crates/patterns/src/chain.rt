@@ -15,16 +15,16 @@ use history::operations::Operations;
 use history::operations::call_of;
 use history::operations::kind_of;
 use history::operations::return_of;
-use matching::opened::open_values;
+use matching::returns::note_returns;
 use matching::values::Numbers;
 use reader::format::MAX_RECORDS;
 use table::number::max;
 
-// Operations are numbered below this, so that a rank tells both how far a value reaches and which add it is of.
-const RANKS: u32 = 1024;
+// Operations are numbered below this, so that a rank says both how far a value reaches and which add it belongs to.
+const RANKS: u32 = MAX_RECORDS as u32;
 
-// The last number that an operation may have.
-const LAST: u32 = 1023;
+// The highest number that an operation may have.
+const LAST: u32 = RANKS - 1;
 
 // Fills the ranks of the adds. The further a value reaches, the higher its add ranks; of several that reach equally far, the lowest add ranks
 // highest.
@@ -115,7 +115,7 @@ pub(crate) fn false_empty(
     let mut rank = [0u32; MAX_RECORDS];
     fill_ranks(table, count, end, reach, &mut rank);
     let mut noted = [0u32; MAX_RECORDS];
-    open_values(table, count, end, &rank, &mut noted);
+    note_returns(table, count, end, &rank, &mut noted);
     let mut next = [0u32; MAX_RECORDS];
     fill_next(end, &noted, &mut next);
     let mut e = 0;

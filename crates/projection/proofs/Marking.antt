@@ -21,8 +21,8 @@ use Rattle.history.proofs.Walking.{Walking, walking-starts, walking-small, walk
 use Rattle.projection.specs.Marks.{MarksAre}
 
 -- The loop of `mark` has come to record i.
-pub record Marking (log : List ℕ) (end : ℕ) (kept callers recent marks : List ℕ) (at count i : ℕ) : Type 0 where
-  pub walking : Walking log end callers recent at count i
+pub record Marking (log : List ℕ) (end : ℕ) (kept callers chains marks : List ℕ) (at count i : ℕ) : Type 0 where
+  pub walking : Walking log end callers chains at count i
   -- the records before it are marked
   pub sized : length marks ≡ maxRecords
   pub marked : (j : ℕ) → j < i → getD marks j 0 ≡ getD kept (operationAt (walking .whole .records) j) 0
@@ -31,7 +31,7 @@ pub marking-starts : {log kept marks : List ℕ} {end : ℕ} → Whole log end �
     → Marking log end kept newKeys newChains marks headerLength 0 0
 marking-starts whole sized = record { walking = walking-starts whole; sized = sized; marked = λ j l. absurd (omega arith) }
 
-module _ {log kept callers recent marks : List ℕ} {end at count i : ℕ} (marking : Marking log end kept callers recent marks at count i) where
+module _ {log kept callers chains marks : List ℕ} {end at count i : ℕ} (marking : Marking log end kept callers chains marks at count i) where
   pub marking-ends : end ≤ i → MarksAre log kept marks
   marking-ends l = record {
     sized = marking .sized;
@@ -41,8 +41,8 @@ module _ {log kept callers recent marks : List ℕ} {end at count i : ℕ} (mark
   }
 
   pub marking-next : i < end → {r : Record} {next : ℕ} {d : Decoded} → d ≡ decodeAt log at → d ≡ Found r next
-      → {owner : Owner} {callers' recent' : List ℕ} → Owned r count callers recent owner callers' recent'
-      → Marking log end kept callers' recent' (set marks i (getD kept (owner .operation) 0)) next (owner .count) (i + 1)
+      → {owner : Owner} {callers' chains' : List ℕ} → Owned r count callers chains owner callers' chains'
+      → Marking log end kept callers' chains' (set marks i (getD kept (owner .operation) 0)) next (owner .count) (i + 1)
   marking-next l e f owned = record {
     walking = walking-next (marking .walking) l e f owned;
     sized = length-set marks i _ ∙ marking .sized;

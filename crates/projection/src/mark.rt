@@ -6,8 +6,8 @@ ghost use Rattle.history.specs.Table.{Whole};
 ghost use Rattle.projection.specs.Marks.{MarksAre};
 use crate::keep::Marks;
 use history::owners::owner_of;
-use map::map::LINKS;
-use map::map::SIZE;
+use map::map::CHAINS;
+use map::map::KEYS;
 use reader::format::HEADER;
 use record::record::Decoded;
 use record::record::decode_at;
@@ -17,8 +17,8 @@ pub(crate) fn mark(log: &[u8], records: usize, kept: &Marks, marks: &mut Marks)
     requires { ⌜ Whole (now log) records × (length (now marks) ≡ maxRecords) ⌝ }
     ensures { λ _. ⌜ MarksAre (now (log .entry)) (now (kept .entry)) (now (marks .exit)) ⌝ }
 {
-    let mut callers = [0u32; SIZE];
-    let mut recent = [0u16; LINKS];
+    let mut callers = [0u32; KEYS];
+    let mut chains = [0u16; CHAINS];
     let mut at = HEADER;
     let mut count = 0;
     let mut i = 0;
@@ -29,7 +29,7 @@ pub(crate) fn mark(log: &[u8], records: usize, kept: &Marks, marks: &mut Marks)
                 return;
             }
             Decoded::Found { record, next } => {
-                let owner = owner_of(record, count, &mut callers, &mut recent);
+                let owner = owner_of(record, count, &mut callers, &mut chains);
                 let o = owner.operation;
                 marks[i] = kept[o];
                 count = owner.count;

@@ -18,10 +18,10 @@ use crate::pending::begin_call;
 use crate::pending::earliest_remove;
 use crate::pending::end_call;
 use crate::pending::pending_kind;
+use map::map::CHAINS;
 use map::map::Chains;
+use map::map::KEYS;
 use map::map::Keys;
-use map::map::LINKS;
-use map::map::SIZE;
 use map::map::find;
 use map::map::push;
 use record::record::Decoded;
@@ -248,8 +248,8 @@ pub(crate) fn read_records(log: &[u8], count: usize) -> Survey
 {
     let mut clients = [0u16; MAX_RECORDS];
     let mut codes = [0u16; MAX_RECORDS];
-    let mut values = [0u32; SIZE];
-    let mut chains = [0u16; LINKS];
+    let mut values = [0u32; KEYS];
+    let mut chains = [0u16; CHAINS];
     match read_all(
         log,
         count,
@@ -301,8 +301,8 @@ pub(crate) fn extend_records(log: &[u8], count: usize, bytes: &[u8]) -> Extensio
 {
     let mut clients = [0u16; MAX_RECORDS];
     let mut codes = [0u16; MAX_RECORDS];
-    let mut values = [0u32; SIZE];
-    let mut chains = [0u16; LINKS];
+    let mut values = [0u32; KEYS];
+    let mut chains = [0u16; CHAINS];
     match read_all(
         log,
         count,

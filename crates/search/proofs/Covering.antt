@@ -9,9 +9,9 @@ use lib.Seq.{getD-set-other}
 use Rattle.reader.specs.Log.{maxRecords}
 use Rattle.history.specs.History.{History}
 use Rattle.history.proofs.Basics.{up-to}
-use Rattle.matching.specs.Opened.{OpenedAt, Opened}
+use Rattle.matching.specs.Returns.{NotedAt, ReturnsNoted}
 use Rattle.matching.proofs.Numbers.{Larger}
-use Rattle.matching.proofs.Opening.{Highest, highest-starts, highest-more}
+use Rattle.matching.proofs.Returning.{Highest, highest-starts, highest-more}
 use Rattle.matching.proofs.Storing.{entry-stored}
 use Rattle.search.specs.Gaps.{CoversIn, LastUncovered, Swept}
 
@@ -36,9 +36,9 @@ sweeping-starts h reach gaps = record {
   covered = λ f b l. absurd (omega arith);
 }
 
--- one position more: x is how far a value reaches that is opened at g, and y how far one does that is opened up to there
+-- one position more: x is how far a value reaches that is noted at g, and y how far one does that is noted up to there
 module _ {h : History} {reach : List ℕ} {g furthest last : ℕ} {gaps : List ℕ} (s : Sweeping h reach g furthest last gaps) (in-gaps : g < length gaps)
-    {x y : ℕ} (at : OpenedAt h reach (h .count) g x) (larger : Larger furthest x y) where
+    {x y : ℕ} (at : NotedAt h reach (h .count) g x) (larger : Larger furthest x y) where
   highest' : Highest h reach (g + 1) y
   highest' = highest-more (s .highest) at larger
 
@@ -76,11 +76,11 @@ pub record SweptTo (end : ℕ) (gaps₀ gaps : List ℕ) (furthest last g : ℕ)
   pub sized : length gaps ≡ maxRecords
   -- the entries from g on are as they were
   pub rest : (f : ℕ) → g ≤ f → getD gaps f 0 ≡ getD gaps₀ f 0
-  pub sweeping : (h : History) (reach : List ℕ) → h .end ≡ end → Opened h reach (h .count) gaps₀ → Sweeping h reach g furthest last gaps
+  pub sweeping : (h : History) (reach : List ℕ) → h .end ≡ end → ReturnsNoted h reach (h .count) gaps₀ → Sweeping h reach g furthest last gaps
 
 -- the sweep begins
 pub swept-none : (end : ℕ) {gaps : List ℕ} → length gaps ≡ maxRecords → SweptTo end gaps gaps 0 0 0
-swept-none end {gaps} sized = record { below = omega arith; sized = sized; rest = λ f l. refl; sweeping = λ h reach e opened. sweeping-starts h reach gaps }
+swept-none end {gaps} sized = record { below = omega arith; sized = sized; rest = λ f l. refl; sweeping = λ h reach e noted. sweeping-starts h reach gaps }
 
 module _ {end : ℕ} {gaps₀ gaps : List ℕ} {furthest last g : ℕ} (swept : SweptTo end gaps₀ gaps furthest last g) where
   -- it goes on by one position
@@ -89,13 +89,13 @@ module _ {end : ℕ} {gaps₀ gaps : List ℕ} {furthest last g : ℕ} (swept : 
     below = omega arith;
     sized = simp length-set (swept .sized);
     rest = λ f m. getD-set-other gaps g f last' 0 (λ e. omega arith) ∙ swept .rest f (omega arith);
-    sweeping = λ h reach e opened. step h reach (swept .sweeping h reach e opened) (rw (swept .rest g (omega arith)) (opened .highest g (omega arith))) by;
+    sweeping = λ h reach e noted. step h reach (swept .sweeping h reach e noted) (rw (swept .rest g (omega arith)) (noted .highest g (omega arith))) by;
   }
     where
       in-gaps : g < length gaps
       in-gaps = omega (arith, swept .sized)
 
-      step : (h : History) (reach : List ℕ) → Sweeping h reach g furthest last gaps → OpenedAt h reach (h .count) g (getD gaps g 0) → ((y ≤ g) × (last' ≡ g + 1)) ⊎ ((g < y) × (last' ≡ last))
+      step : (h : History) (reach : List ℕ) → Sweeping h reach g furthest last gaps → NotedAt h reach (h .count) g (getD gaps g 0) → ((y ≤ g) × (last' ≡ g + 1)) ⊎ ((g < y) × (last' ≡ last))
           → Sweeping h reach (g + 1) y last' (set gaps g last')
       step h reach s at (inl (b, e)) = rw e (sweeping-uncovered s in-gaps at larger b)
       step h reach s at (inr (b, e)) = rw e (sweeping-covered s in-gaps at larger b)
@@ -103,5 +103,5 @@ module _ {end : ℕ} {gaps₀ gaps : List ℕ} {furthest last g : ℕ} (swept : 
   -- it has come to the end
   pub swept-all : end ≤ g → Swept end gaps₀ gaps
   swept-all l = record {
-    uncovered = λ h reach e opened. record { sized = swept .sized; lasts = λ f m. swept .sweeping h reach e opened .lasts f (omega arith) };
+    uncovered = λ h reach e noted. record { sized = swept .sized; lasts = λ f m. swept .sweeping h reach e noted .lasts f (omega arith) };
   }

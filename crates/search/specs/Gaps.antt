@@ -7,7 +7,7 @@ use lib.ListN.{length, getD}
 use Rattle.reader.specs.Log.{maxRecords}
 use Rattle.history.specs.History.{History, add}
 use Rattle.violations.specs.Violations.{Is}
-use Rattle.matching.specs.Opened.{Opened}
+use Rattle.matching.specs.Returns.{ReturnsNoted}
 use Rattle.matching.specs.Reaches.{reachAt}
 
 -- the value of add a covers gap g, as the table of reaches has it
@@ -27,6 +27,6 @@ pub record Uncovered (h : History) (reach : List ℕ) (n : ℕ) (gaps : List ℕ
   pub sized : length gaps ≡ maxRecords
   pub lasts : (g : ℕ) → g < n → LastUncovered h reach g (getD gaps g 0)
 
--- The sweep turns a table of how far the values opened at each position reach into the table of gaps below, whatever history it is of.
+-- The sweep turns a table of how far the values noted at each position reach into the table of gaps below, whatever history it is of.
 pub record Swept (end : ℕ) (gaps gaps' : List ℕ) : Type 0 where
-  pub uncovered : (h : History) (reach : List ℕ) → h .end ≡ end → Opened h reach (h .count) gaps → Uncovered h reach end gaps'
+  pub uncovered : (h : History) (reach : List ℕ) → h .end ≡ end → ReturnsNoted h reach (h .count) gaps → Uncovered h reach end gaps'

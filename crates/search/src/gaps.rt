@@ -8,7 +8,7 @@ ghost use Rattle.matching.specs.Held.{Held};
 ghost use Rattle.matching.specs.Matching.{Cleared};
 ghost use Rattle.search.specs.Gaps.{Swept, Uncovered};
 use history::operations::Operations;
-use matching::opened::open_values;
+use matching::returns::note_returns;
 use matching::values::Numbers;
 use table::number::max;
 
@@ -42,6 +42,6 @@ pub(crate) fn fill_gaps(
     requires { ⌜ Held (tabled count end (now table)) × (length (now reach) ≡ maxRecords) × Cleared (now gaps) ⌝ }
     ensures { λ _. ⌜ Uncovered (tabled count end (now (table .entry))) (now (reach .entry)) end (now (gaps .exit)) ⌝ }
 {
-    open_values(table, count, end, reach, gaps);
+    note_returns(table, count, end, reach, gaps);
     sweep(end, gaps);
 }

@@ -11,7 +11,7 @@ pub const SIZE: usize = 1024;
 // Clients, operations and codes of calls are below 65,536.
 pub type Table = [u16; SIZE];
 
-// Whether x is in a list. The loop runs to the end, so that it is done several entries at a time.
+// Whether x is in a list. No early exit, so that the loop vectorises.
 pub fn is_in(x: u32, list: &[u32]) -> bool
     ensures { λ r. ⌜ r ≡ isIn x (now (list .entry)) ⌝ }
 {
@@ -26,20 +26,20 @@ pub fn is_in(x: u32, list: &[u32]) -> bool
     found
 }
 
-// Whether x is in the table. The loop runs to the end, as that of `is_in` does.
+// Whether x is in the table. No early exit, as in `is_in`.
 pub fn contains(table: &Table, count: usize, x: u16) -> bool
     requires { ⌜ Fits count (now table) ⌝ }
     ensures { λ r. ⌜ r ≡ isIn x (take count (now (table .entry))) ⌝ }
 {
-    let mut among = false;
+    let mut found = false;
     let mut at = 0;
     while at < count {
         if table[at] == x {
-            among = true;
+            found = true;
         }
         at += 1;
     }
-    among
+    found
 }
 
 // The index of the first x, or `count` where there is none.

@@ -117,8 +117,8 @@ spanned-all {records} {count = count} spanned last counted =
     rw (last, called) at spanned
 
 -- The loop of `span` has come to record i.
-pub record Spanning (log : List ℕ) (end : ℕ) (callers recent starts ends : List ℕ) (at count i : ℕ) : Type 0 where
-  pub walking : Walking log end callers recent at count i
+pub record Spanning (log : List ℕ) (end : ℕ) (callers chains starts ends : List ℕ) (at count i : ℕ) : Type 0 where
+  pub walking : Walking log end callers chains at count i
   -- the log is short
   pub short : end ≤ pageRecords
   -- the spans of the operations called before it are noted
@@ -132,7 +132,7 @@ spanning-starts whole short s e = record {
   spanned = record { starts-sized = s; ends-sized = e; starts-are = λ o l. absurd (omega arith); ends-are = λ o l. absurd (omega arith) };
 }
 
-module _ {log callers recent starts ends : List ℕ} {end at count i : ℕ} (spanning : Spanning log end callers recent starts ends at count i) where
+module _ {log callers chains starts ends : List ℕ} {end at count i : ℕ} (spanning : Spanning log end callers chains starts ends at count i) where
   -- the records of the log
   abbrev all : List Record
   all = spanning .walking .whole .records
@@ -143,7 +143,7 @@ module _ {log callers recent starts ends : List ℕ} {end at count i : ℕ} (spa
       record { spanned = λ records reads. rw (whole-one (spanning .walking .whole) records reads) at (spanned-all (spanning .spanned) last (spanning .walking .traced .counted)) }
 
   module _ (l : i < end) {r : Record} {next : ℕ} {d : Decoded} (e : d ≡ decodeAt log at) (f : d ≡ Found r next)
-      {owner : Owner} {callers' recent' : List ℕ} (owned : Owned r count callers recent owner callers' recent') where
+      {owner : Owner} {callers' chains' : List ℕ} (owned : Owned r count callers chains owner callers' chains') where
     regular : Regular all
     regular = walking-regular (spanning .walking)
 
@@ -158,7 +158,7 @@ module _ {log callers recent starts ends : List ℕ} {end at count i : ℕ} (spa
     )
 
     pub spanning-next : {starts' ends' : List ℕ} → SpanNoted (r .event) (owner .operation) i end starts ends starts' ends'
-        → Spanning log end callers' recent' starts' ends' next (owner .count) (i + 1)
+        → Spanning log end callers' chains' starts' ends' next (owner .count) (i + 1)
     spanning-next noted = record {
       walking = walking-next (spanning .walking) l e f owned;
       short = spanning .short;

@@ -7,8 +7,8 @@ ghost use Rattle.timeline.specs.Page.{pageRecords};
 ghost use Rattle.timeline.specs.Spans.{SpanNoted, SpansAre};
 use history::owners::is_call;
 use history::owners::owner_of;
-use map::map::LINKS;
-use map::map::SIZE;
+use map::map::CHAINS;
+use map::map::KEYS;
 use reader::format::HEADER;
 use record::record::Decoded;
 use record::record::Event;
@@ -47,8 +47,8 @@ pub(crate) fn span(log: &[u8], records: usize, starts: &mut ByOperation, ends: &
         × (length (now starts) ≡ pageRecords) × (length (now ends) ≡ pageRecords) ⌝ }
     ensures { λ _. ⌜ SpansAre (now (log .entry)) (now (starts .exit)) (now (ends .exit)) ⌝ }
 {
-    let mut callers = [0u32; SIZE];
-    let mut recent = [0u16; LINKS];
+    let mut callers = [0u32; KEYS];
+    let mut chains = [0u16; CHAINS];
     let mut at = HEADER;
     let mut count = 0;
     let mut i = 0;
@@ -60,7 +60,7 @@ pub(crate) fn span(log: &[u8], records: usize, starts: &mut ByOperation, ends: &
             }
             Decoded::Found { record, next } => {
                 let event = record.event;
-                let owner = owner_of(record, count, &mut callers, &mut recent);
+                let owner = owner_of(record, count, &mut callers, &mut chains);
                 note_span(event, owner.operation, i, records, starts, ends);
                 count = owner.count;
                 at = next;

@@ -8,10 +8,10 @@ use native.Mathlib.Omega.{arith}
 use Rattle.history.proofs.Reaching.{Reached, reached-start, reached-found, reached-room, reached-next, reached-end}
 
 abbrev Inv-loop : tie.InvT-loop
-Inv-loop log end table₀ callers₀ recent₀ at₀ count₀ i₀ table callers recent at count i = Reached log end table₀ callers recent table at count i
+Inv-loop log end table₀ callers₀ chains₀ at₀ count₀ i₀ table callers chains at count i = Reached log end table₀ callers chains table at count i
 
 abbrev μ-loop : tie.MeasureT-loop
-μ-loop log end table₀ callers₀ recent₀ at₀ count₀ i₀ table callers recent at count i = end - i
+μ-loop log end table₀ callers₀ chains₀ at₀ count₀ i₀ table callers chains at count i = end - i
 
 loop-holds : tie.Need-loop-holds Inv-loop μ-loop
 loop-holds c = reached-start (c .before .pre .0) _ (c .before .pre .1)

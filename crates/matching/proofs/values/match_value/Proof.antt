@@ -12,14 +12,15 @@ use Rattle.matching.proofs.Matching.{noted-other, noted-unknown, noted-
 use Rattle.matching.proofs.values.match_value.Statement.{statement}
 use Rattle.matching.proofs.values.match_value.Tie as tie
 
--- where the value has been looked for, the function's start, and what was found
+-- from where the value has been looked up back to the start, what the lookup found, and the add that it is of
 abbrev start : tie.After-find → tie.Start
 start c = c .before .before .before .before
 
 looked-for : (c : tie.After-find) → let s = start c .args in Latest (s .values .now) (s .n) (valueAt (s .table .now) (s .r)) (c .find .result)
 looked-for c = rw (c .before .value-of .ensures) at (c .find .ensures)
 
-add-is : (c : tie.Then2) → let s = start (c .before) .args in let a = getD (s .adds .now) (c .before .find .result) 0 in (a < s .count) × AddOf (s .table .now) (valueAt (s .table .now) (s .r)) a
+add-is : (c : tie.Then2) → let s = start (c .before) .args in let a = getD (s .adds .now) (c .before .find .result) 0 in
+    (a < s .count) × AddOf (s .table .now) (valueAt (s .table .now) (s .r)) a
 add-is c = add-found (start (c .before) .pre .1) (looked-for (c .before)) (c .if2 .taken)
 
 in-use : (c : tie.Then2) → c .before .find .result < maxRecords

@@ -9,7 +9,7 @@ use lib.ListN.{getD}
 use Rattle.reader.specs.Log.{maxRecords}
 use Rattle.history.specs.History.{History}
 use Rattle.history.specs.Table.{tabled}
-use Rattle.matching.proofs.Opening.{Highest}
+use Rattle.matching.proofs.Returning.{Highest}
 use Rattle.patterns.specs.Chains.{NextNoted}
 use Rattle.patterns.proofs.Chaining.{Linked, linked-starts, linked-ends, room-left, linked-more, none-covers}
 use Rattle.patterns.proofs.Furthering.{Tried, tried-none, tried-on, tried-more, tried-all, gap-uncovered, furthest-found}
@@ -79,7 +79,7 @@ module _ (c : tie.At-loop Inv-loop μ-loop Inv-gaps μ-gaps) where
 
   -- all values whose adds have returned by the gap were tried
   highest : c .before .before .gaps .gap < returned → Highest (h (c .before)) (begin .pre .1 .rank) (c .before .before .gaps .gap + 1) (c .loop .best)
-  highest l = tried-all (c .loop .inv .1) (omega (arith, inside (c .before))) next-at l (begin .pre .1 .opened)
+  highest l = tried-all (c .loop .inv .1) (omega (arith, inside (c .before))) next-at l (begin .pre .1 .returns)
 
 mul-returned : tie.Need-mul-returned Inv-loop μ-loop Inv-gaps μ-gaps
 mul-returned c = search needs

@@ -25,19 +25,19 @@ abbrev μ-loop : tie.MeasureT-loop
 fill-ranks-requires : tie.Need-fill-ranks-requires Inv-loop μ-loop
 fill-ranks-requires c κs = (c .before .pre .0, c .before .pre .1, refl)
 
-open-values-requires : tie.Need-open-values-requires Inv-loop μ-loop
-open-values-requires c κs = (c .before .before .before .before .pre .0, c .before .before .fill-ranks .ensures .sized, new-cleared)
+note-returns-requires : tie.Need-note-returns-requires Inv-loop μ-loop
+note-returns-requires c κs = (c .before .before .before .before .pre .0, c .before .before .fill-ranks .ensures .sized, new-cleared)
 
 fill-next-requires : tie.Need-fill-next-requires Inv-loop μ-loop
 fill-next-requires c κs = search needs
 
 -- What holds before the loop.
 module _ (c : tie.After-fill-next Inv-loop μ-loop) where
-  abbrev opening : tie.After-open-values Inv-loop μ-loop
-  opening = c .before .before .before
+  abbrev noting : tie.After-note-returns Inv-loop μ-loop
+  noting = c .before .before .before
 
   abbrev ranking : tie.After-fill-ranks Inv-loop μ-loop
-  ranking = opening .before .before .before
+  ranking = noting .before .before .before
 
   abbrev start : tie.Start Inv-loop μ-loop
   start = ranking .before .before
@@ -69,7 +69,7 @@ chain-requires c κs =
         reaching = start filled .pre .1;
         rank = _;
         ranked = ranking filled .fill-ranks .ensures;
-        opened = opening filled .open-values .ensures;
+        returns = noting filled .note-returns .ensures;
       },
       filled .fill-next .ensures,
       is turn,
@@ -106,7 +106,7 @@ false-empty-spec =
     Inv-loop
     μ-loop
     fill-ranks-requires
-    open-values-requires
+    note-returns-requires
     fill-next-requires
     loop-holds
     kind-of-requires

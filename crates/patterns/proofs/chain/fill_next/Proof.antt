@@ -21,7 +21,7 @@ cast-first c = search needs
 loop-holds : tie.Need-loop-holds Inv-loop μ-loop
 loop-holds c = (
   omega arith,
-  record { from = omega arith; none-before = λ g b m. absurd (omega arith); there = inl refl },
+  record { from = omega arith; within = omega arith; none-before = λ g b m. absurd (omega arith); there = inl refl },
   record { sized = c .pre .2; nexts = λ p b m. absurd (omega arith) },
 )
 

@@ -9,10 +9,10 @@ use Rattle.history.proofs.Walking.{walking-small, walking-found, walking-room}
 use Rattle.projection.proofs.Marking.{Marking, marking-starts, marking-next, marking-ends}
 
 abbrev Inv-loop : tie.InvT-loop
-Inv-loop log records kept marks₀ callers₀ recent₀ at₀ count₀ i₀ marks callers recent at count i = Marking log records kept callers recent marks at count i
+Inv-loop log records kept marks₀ callers₀ chains₀ at₀ count₀ i₀ marks callers chains at count i = Marking log records kept callers chains marks at count i
 
 abbrev μ-loop : tie.MeasureT-loop
-μ-loop log records kept marks₀ callers₀ recent₀ at₀ count₀ i₀ marks callers recent at count i = records - i
+μ-loop log records kept marks₀ callers₀ chains₀ at₀ count₀ i₀ marks callers chains at count i = records - i
 
 -- the steps of a turn: the record is decoded, and its operation is found
 abbrev found : tie.After-owner-of Inv-loop μ-loop → tie.After-record Inv-loop μ-loop

@@ -14,15 +14,18 @@ Inv-loop log count clients₀ codes₀ values₀ chains₀ p₀ i₀ clients cod
 abbrev μ-loop : tie.MeasureT-loop
 μ-loop log count clients₀ codes₀ values₀ chains₀ p₀ i₀ clients codes values chains p i = count - i
 
--- a turn of the loop, from where its record is read
+-- the turn of the loop in which a record is to be read, and in which it has been read
+abbrev reading : tie.After-read-record-arg4 Inv-loop μ-loop → tie.In-loop Inv-loop μ-loop
+reading c = c .before .before .before .before
+
 abbrev turn : tie.After-read-record Inv-loop μ-loop → tie.In-loop Inv-loop μ-loop
-turn c = c .before .before .before .before .before
+turn c = reading (c .before)
 
 loop-holds : tie.Need-loop-holds Inv-loop μ-loop
 loop-holds c = loop-starts _ _ _ _ _ _ (c .before .pre .1) (c .before .pre .2) (c .before .pre .3)
 
 read-record-requires : tie.Need-read-record-requires Inv-loop μ-loop
-read-record-requires c κs = let loop = c .before .before .before .before .before .loop in let below : loop .i < 1024 = omega arith in (below, loop-has-room (loop .inv) below)
+read-record-requires c κs = let loop = reading c .before .loop in let below : loop .i < 1024 = omega arith in (below, loop-has-room (loop .inv) below)
 
 enum-known-number : tie.Need-enum-known-number Inv-loop μ-loop
 enum-known-number c = search needs

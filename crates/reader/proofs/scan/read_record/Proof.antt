@@ -7,7 +7,7 @@ use Rattle.record.specs.declared.record.Decoded.the-variants.{Found}
 use Rattle.reader.proofs.scan.read_record.Statement.{statement}
 use Rattle.reader.proofs.scan.read_record.Tie as tie
 
--- where a record has been found, behind the fault that was looked for and behind the tables that `admit` is lent
+-- the state in which the record was found, and the one in which it has no fault
 abbrev found : tie.After-fault → tie.After-record
 found c = c .before .before .before .before .before .before
 
@@ -15,7 +15,8 @@ abbrev tested : tie.After-admit → tie.Else1
 tested c = c .before .before .before .before .before
 
 -- what the bytes are decoded as
-decodes : (c : tie.After-record) → decodeAt (c .before .before .before .before .args .log .now) (c .before .before .before .before .args .p .at) ≡ Found (c .«record» .given .0 .0) (c .«record» .given .0 .1 .0)
+decodes : (c : tie.After-record) → let a = c .before .before .before .before .args in
+    decodeAt (a .log .now) (a .p .at) ≡ Found (c .«record» .given .0 .0) (c .«record» .given .0 .1 .0)
 decodes c = sym (c .before .before .decode-at .ensures) ∙ c .«record» .given .1
 
 decode-at-requires : tie.Need-decode-at-requires

@@ -1,5 +1,5 @@
 -- `sweep` meets its contract. The loop's invariant is `SweptTo`: the entries below g are right, and those from g on are as they were;
--- furthest is how far a value reaches at most that is opened below g; last is 1 above the last gap below g that no value covers.
+-- furthest is how far a value reaches at most that is noted below g; last is 1 above the last gap below g that no value covers.
 use Rattle.search.proofs.gaps.sweep.Statement.{statement}
 use Rattle.search.proofs.gaps.sweep.Tie as tie
 use borrow.Author.Needs.{needs}

@@ -1,7 +1,7 @@
 -- `place` meets its contract.
-use Prim.Native.Nat.{_<_}
+use Prim.Native.Nat.{_≤_, _<_}
 use native.Mathlib.Omega.{arith}
-use lib.ListN.{getD}
+use lib.ListN.{length, getD}
 use borrow.Author.Needs.{needs}
 use Rattle.table.proofs.Lists.{pushed}
 use Rattle.reader.specs.Log.{maxRecords}
@@ -18,7 +18,8 @@ known : (c : tie.Start) → getD (c .args .waiting .now) (c .args .i) 0 < maxRec
 known c =
     let room = c .pre .1 in
     let few = c .pre .0 .few in
-    omega (arith, few, room .known _ (entry (c .args .waiting .now) (c .args .s .waiting) (c .args .i) (omega (arith, room .within, room .next-within, room .sized, few)) (c .pre .2)))
+    let fits : c .args .s .waiting ≤ length (c .args .waiting .now) = omega (arith, room .within, room .next-within, room .sized, few) in
+    omega (arith, few, room .known _ (entry (c .args .waiting .now) (c .args .s .waiting) (c .args .i) fits (c .pre .2)))
 
 mul-o : tie.Need-mul-o
 mul-o c = search needs

@@ -10,10 +10,10 @@ use Rattle.table.proofs.table.contains.Statement.{statement}
 use Rattle.table.proofs.table.contains.Tie as tie
 
 abbrev Inv-loop : tie.InvT-loop
-Inv-loop table count x among₀ at₀ among at = (at ≤ count) × (among ≡ isIn x (take at table))
+Inv-loop table count x found₀ at₀ found at = (at ≤ count) × (found ≡ isIn x (take at table))
 
 abbrev μ-loop : tie.MeasureT-loop
-μ-loop table count x among₀ at₀ among at = count - at
+μ-loop table count x found₀ at₀ found at = count - at
 
 loop-holds : tie.Need-loop-holds Inv-loop μ-loop
 unfolding isIn

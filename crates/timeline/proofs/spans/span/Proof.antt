@@ -9,10 +9,10 @@ use Rattle.timeline.proofs.spans.span.Statement.{statement}
 use Rattle.timeline.proofs.spans.span.Tie as tie
 
 abbrev Inv-loop : tie.InvT-loop
-Inv-loop log records starts₀ ends₀ callers₀ recent₀ at₀ count₀ i₀ starts ends callers recent at count i = Spanning log records callers recent starts ends at count i
+Inv-loop log records starts₀ ends₀ callers₀ chains₀ at₀ count₀ i₀ starts ends callers chains at count i = Spanning log records callers chains starts ends at count i
 
 abbrev μ-loop : tie.MeasureT-loop
-μ-loop log records starts₀ ends₀ callers₀ recent₀ at₀ count₀ i₀ starts ends callers recent at count i = records - i
+μ-loop log records starts₀ ends₀ callers₀ chains₀ at₀ count₀ i₀ starts ends callers chains at count i = records - i
 
 -- the steps of a turn: the record is decoded, and its operation is found
 abbrev found : tie.After-owner-of Inv-loop μ-loop → tie.After-record Inv-loop μ-loop

@@ -11,48 +11,48 @@ use Rattle.history.specs.History.{History, add}
 use Rattle.history.proofs.Basics.{up-to}
 use Rattle.violations.specs.Violations.{Is}
 use Rattle.matching.specs.Matching.{Cleared}
-use Rattle.matching.specs.Opened.{OpenedAt, Opened}
+use Rattle.matching.specs.Returns.{NotedAt, ReturnsNoted}
 use Rattle.matching.proofs.Numbers.{Larger}
 use Rattle.matching.proofs.Storing.{entry-stored}
 
 -- nothing is noted in a new table
-pub opened-none : (h : History) (number : List ℕ) {opened : List ℕ} → Cleared opened → Opened h number 0 opened
-opened-none h number cleared = record {
+pub returns-none : (h : History) (number : List ℕ) {noted : List ℕ} → Cleared noted → ReturnsNoted h number 0 noted
+returns-none h number cleared = record {
   sized = cleared .sized;
   highest = λ g l. record { over = λ a m. absurd (omega arith); met = λ p. absurd (omega (arith, cleared .zero g)) };
 }
 
 -- an operation that is not noted at a position leaves it as it is
-opened-at-other : {h : History} {number : List ℕ} {n g x : ℕ} → OpenedAt h number n g x → (Is h add n → h .ret n ≡ g → ⊥)
-    → OpenedAt h number (n + 1) g x
-opened-at-other {h} {number} {g = g} {x = x} at other = record {
+noted-at-other : {h : History} {number : List ℕ} {n g x : ℕ} → NotedAt h number n g x → (Is h add n → h .ret n ≡ g → ⊥)
+    → NotedAt h number (n + 1) g x
+noted-at-other {h} {number} {g = g} {x = x} at other = record {
   over = up-to {P = λ a. Is h add a → h .ret a ≡ g → getD number a 0 ≤ x} (at .over) (λ is e. absurd (other is e));
-  met = at .met;
+  met = λ p. let (a, l, is, r, e) = at .met p in (a, omega arith, is, r, e);
 }
 
-module _ {h : History} {number : List ℕ} {n : ℕ} {opened : List ℕ} (so-far : Opened h number n opened) where
+module _ {h : History} {number : List ℕ} {n : ℕ} {noted : List ℕ} (so-far : ReturnsNoted h number n noted) where
   -- an operation that is no add, or is pending, is not noted
-  pub opened-other : (Is h add n → h .ret n < h .end → ⊥) → Opened h number (n + 1) opened
-  opened-other other = record { sized = so-far .sized; highest = λ g l. opened-at-other (so-far .highest g l) (λ is e. other is (omega arith)) }
+  pub returns-other : (Is h add n → h .ret n < h .end → ⊥) → ReturnsNoted h number (n + 1) noted
+  returns-other other = record { sized = so-far .sized; highest = λ g l. noted-at-other (so-far .highest g l) (λ is e. other is (omega arith)) }
 
   -- an add that has returned is noted at its return
-  pub opened-add : h .end ≤ maxRecords → Is h add n → h .ret n < h .end → {x : ℕ} → Larger (getD opened (h .ret n) 0) (getD number n 0) x
-      → Opened h number (n + 1) (set opened (h .ret n) x)
-  opened-add short is returned {x} (old, new, one) = record {
+  pub returns-add : h .end ≤ maxRecords → Is h add n → h .ret n < h .end → {x : ℕ} → Larger (getD noted (h .ret n) 0) (getD number n 0) x
+      → ReturnsNoted h number (n + 1) (set noted (h .ret n) x)
+  returns-add short is returned {x} (old, new, one) = record {
     sized = simp length-set (so-far .sized);
-    highest = λ g l. entry-stored (OpenedAt h number (n + 1) g) opened (h .ret n) x g (omega (arith, so-far .sized))
+    highest = λ g l. entry-stored (NotedAt h number (n + 1) g) noted (h .ret n) x g (omega (arith, so-far .sized))
         (λ e. rw e here)
-        (λ d. opened-at-other (so-far .highest g l) (λ i e. d (sym e)));
+        (λ d. noted-at-other (so-far .highest g l) (λ i e. d (sym e)));
   }
     where
-      at : OpenedAt h number n (h .ret n) (getD opened (h .ret n) 0)
+      at : NotedAt h number n (h .ret n) (getD noted (h .ret n) 0)
       at = so-far .highest (h .ret n) returned
 
-      met : (x ≡ getD opened (h .ret n) 0) ⊎ (x ≡ getD number n 0) → 0 < x → (a : ℕ) × Is h add a × (h .ret a ≡ h .ret n) × (getD number a 0 ≡ x)
-      met (inl e) p = let (a, is, r, f) = at .met (omega arith) in (a, is, r, f ∙ sym e)
-      met (inr e) p = (n, is, refl, sym e)
+      met : (x ≡ getD noted (h .ret n) 0) ⊎ (x ≡ getD number n 0) → 0 < x → (a : ℕ) × (a < n + 1) × Is h add a × (h .ret a ≡ h .ret n) × (getD number a 0 ≡ x)
+      met (inl e) p = let (a, l, is, r, f) = at .met (omega arith) in (a, omega arith, is, r, f ∙ sym e)
+      met (inr e) p = (n, omega arith, is, refl, sym e)
 
-      here : OpenedAt h number (n + 1) (h .ret n) x
+      here : NotedAt h number (n + 1) (h .ret n) x
       here = record {
         over = up-to {P = λ a. Is h add a → h .ret a ≡ h .ret n → getD number a 0 ≤ x} (λ a l i e. omega (arith, at .over a l i e)) (λ i e. new);
         met = met one;
@@ -67,7 +67,7 @@ pub highest-starts : (h : History) (number : List ℕ) → Highest h number 0 0
 highest-starts h number = record { over = λ a is l. absurd (omega arith); met = λ p. absurd (omega arith) }
 
 -- one position more: y is noted there, and z is the larger of the two
-pub highest-more : {h : History} {number : List ℕ} {g x y z : ℕ} → Highest h number g x → OpenedAt h number (h .count) g y → Larger x y z
+pub highest-more : {h : History} {number : List ℕ} {g x y z : ℕ} → Highest h number g x → NotedAt h number (h .count) g y → Larger x y z
     → Highest h number (g + 1) z
 highest-more {h} {number} {g} {x} {y} {z} so-far at (old, new, one) = record { over = λ a is l. over a is l (decLt (h .ret a) g); met = met one }
   where
@@ -77,12 +77,12 @@ highest-more {h} {number} {g} {x} {y} {z} so-far at (old, new, one) = record { o
 
     met : (z ≡ x) ⊎ (z ≡ y) → 0 < z → (a : ℕ) × Is h add a × (h .ret a < g + 1) × (getD number a 0 ≡ z)
     met (inl e) p = let (a, is, l, f) = so-far .met (omega arith) in (a, is, omega arith, f ∙ sym e)
-    met (inr e) p = let (a, is, r, f) = at .met (omega arith) in (a, is, omega arith, f ∙ sym e)
+    met (inr e) p = let (a, l, is, r, f) = at .met (omega arith) in (a, is, omega arith, f ∙ sym e)
 
 -- several positions more, at which nothing is noted
-pub highest-on : {h : History} {number opened : List ℕ} {g f x : ℕ} → Opened h number (h .count) opened → Highest h number g x → g ≤ f → f ≤ h .end
-    → ((p : ℕ) → g ≤ p → p < f → getD opened p 0 ≡ 0) → Highest h number f x
-highest-on {h} {number} {opened} {g} {f} {x} all so-far later within none = record {
+pub highest-on : {h : History} {number noted : List ℕ} {g f x : ℕ} → ReturnsNoted h number (h .count) noted → Highest h number g x → g ≤ f → f ≤ h .end
+    → ((p : ℕ) → g ≤ p → p < f → getD noted p 0 ≡ 0) → Highest h number f x
+highest-on {h} {number} {noted} {g} {f} {x} all so-far later within none = record {
   over = λ a is l. over a is l (decLt (h .ret a) g);
   met = λ p. let (a, is, l, e) = so-far .met p in (a, is, omega arith, e);
 }

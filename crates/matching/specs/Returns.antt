@@ -9,10 +9,10 @@ use Rattle.violations.specs.Violations.{Is}
 
 -- Each operation has a number in a table. x is the highest one of the adds among the first n operations that return at position g; 0 if there is
 -- none.
-pub record OpenedAt (h : History) (number : List ℕ) (n g x : ℕ) : Type 0 where
+pub record NotedAt (h : History) (number : List ℕ) (n g x : ℕ) : Type 0 where
   pub over : (a : ℕ) → a < n → Is h add a → h .ret a ≡ g → getD number a 0 ≤ x
-  pub met : 0 < x → (a : ℕ) × Is h add a × (h .ret a ≡ g) × (getD number a 0 ≡ x)
+  pub met : 0 < x → (a : ℕ) × (a < n) × Is h add a × (h .ret a ≡ g) × (getD number a 0 ≡ x)
 
-pub record Opened (h : History) (number : List ℕ) (n : ℕ) (opened : List ℕ) : Type 0 where
-  pub sized : length opened ≡ maxRecords
-  pub highest : (g : ℕ) → g < h .end → OpenedAt h number n g (getD opened g 0)
+pub record ReturnsNoted (h : History) (number : List ℕ) (n : ℕ) (noted : List ℕ) : Type 0 where
+  pub sized : length noted ≡ maxRecords
+  pub highest : (g : ℕ) → g < h .end → NotedAt h number n g (getD noted g 0)

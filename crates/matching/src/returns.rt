@@ -1,11 +1,11 @@
-// A number of each add is noted at the position of its return. specs/Opened.antt says what is noted.
+// A number of each add is noted at the position of its return. specs/Returns.antt says what is noted.
 ghost use mathlib.Core.Path.{_≡_};
 ghost use lib.ListN.{length};
 ghost use Rattle.reader.specs.Log.{maxRecords};
 ghost use Rattle.history.specs.Table.{tabled};
 ghost use Rattle.matching.specs.Held.{Held};
 ghost use Rattle.matching.specs.Matching.{Cleared};
-ghost use Rattle.matching.specs.Opened.{Opened};
+ghost use Rattle.matching.specs.Returns.{ReturnsNoted};
 use crate::values::Numbers;
 use history::operations::ADD;
 use history::operations::Operations;
@@ -14,22 +14,22 @@ use history::operations::return_of;
 use table::number::max;
 
 // Notes the number of each add at the position of its return, the highest where several return.
-pub fn open_values(
+pub fn note_returns(
     table: &Operations,
     count: usize,
     end: usize,
     number: &Numbers,
-    opened: &mut Numbers,
+    noted: &mut Numbers,
 )
-    requires { ⌜ Held (tabled count end (now table)) × (length (now number) ≡ maxRecords) × Cleared (now opened) ⌝ }
-    ensures { λ _. ⌜ Opened (tabled count end (now (table .entry))) (now (number .entry)) count (now (opened .exit)) ⌝ }
+    requires { ⌜ Held (tabled count end (now table)) × (length (now number) ≡ maxRecords) × Cleared (now noted) ⌝ }
+    ensures { λ _. ⌜ ReturnsNoted (tabled count end (now (table .entry))) (now (number .entry)) count (now (noted .exit)) ⌝ }
 {
     let mut a = 0;
     while a < count {
         if kind_of(table, a) == ADD {
             let returned = return_of(table, a) as usize;
             if returned < end {
-                opened[returned] = max(opened[returned], number[a]);
+                noted[returned] = max(noted[returned], number[a]);
             }
         }
         a += 1;
