@@ -121,6 +121,7 @@ static const struct sample samples[] = {
     {"calls-then-returns", 512, 0, 512, log_calls_then_returns},
     {"calls-shared-slot", 512, 0, 512, log_calls_then_returns_of_slots},
     {"values-reversed", 512, 0, 512, log_values_reversed},
+    {"pending-pairs", 682, 0, 682, log_pending_pairs},
     {"shared-slot", 512, 0, 512, log_values_of_slot},
     {"pending-adds", 1024, 0, 0, pending_adds},
     {"pending-adds-listed", 1024, 0, 0, pending_adds_listed},

@@ -162,6 +162,8 @@ static void check_largest(void)
     expect_order(512, "512 calls, then their returns, by clients that share slots");
     log_values_reversed(&run, &order);
     expect_order(512, "256 values removed in reverse order");
+    log_pending_pairs(&run, &order);
+    expect_order(682, "341 adds without return and their removes, all of which overlap");
     log_values_of_slot(&run, &order);
     expect_order(512, "256 adds, then 256 removes, of values that share a slot");
     log_pending_adds(&run, YR_MAX_RECORDS);

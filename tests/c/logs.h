@@ -91,7 +91,7 @@ static inline void log_pending_adds(struct log *log, unsigned n)
         log_record(log, CALL_ADD, i, i);
 }
 
-/* The slot of a key, a value or a client, by the formula of the library's map
+/* The slot of a key (a value or a client), by the formula of the library's map
    (crates/map/src/map.rt). Keys that share one of the 512 slots are searched one after the other. */
 static inline unsigned slot_of(uint32_t key)
 {
@@ -188,6 +188,21 @@ static inline void log_values_reversed(struct log *log, struct sheet *order)
     sheet_begin(order);
     for (unsigned i = 0; i < 512; i++)
         sheet_list(order, i < 256 ? 256 + i : 511 - i);
+}
+
+/* 341 calls of add and 341 of remove, in turns, a client each. The adds never return, so that all
+   operations overlap. The removes return from the last to the first, and take the values from the
+   first to the last. */
+static inline void log_pending_pairs(struct log *log, struct sheet *order)
+{
+    log_begin(log);
+    for (unsigned i = 0; i < 682; i++)
+        log_record(log, i % 2 == 0 ? CALL_ADD : CALL_REMOVE, i, i / 2);
+    for (unsigned value = 0; value < 341; value++)
+        log_record(log, RETURN_VALUE, 681 - 2 * value, value);
+    sheet_begin(order);
+    for (unsigned i = 0; i < 682; i++)
+        sheet_list(order, i < 341 ? 2 * i : 681 - 2 * (i - 341));
 }
 
 /* 256 adds, then 256 removes, one after the other by one client, of values that share a slot of the

@@ -133,6 +133,8 @@ static void check_largest(void)
     check_large("512 calls, then their returns");
     log_calls_then_returns_of_slots(&run, &order);
     check_large("512 calls, then their returns, by clients that share slots");
+    log_pending_pairs(&run, &order);
+    check_large("341 adds without return and their removes, all of which overlap");
     log_values_of_slot(&run, &order);
     check_large("256 adds, then 256 removes, of values that share a slot");
 

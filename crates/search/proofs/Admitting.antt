@@ -4,7 +4,7 @@ use native.Mathlib.Omega.{arith}
 use mathlib.Core.Path.{_≡_, refl}
 use mathlib.Core.Logic.{_⊎_, inl, inr}
 use mathlib.Core.List.{List}
-use lib.ListN.{take}
+use lib.ListN.{length, take}
 use Rattle.table.specs.Table.{Pushed}
 use Rattle.history.specs.History.{History}
 use Rattle.history.specs.Linearization.{Listed}
@@ -14,7 +14,7 @@ use Rattle.matching.specs.Held.{Held}
 use Rattle.search.specs.Searching.{Waits, orderIn, LeastReturn, Room, AdmittedOne, Admitted}
 use Rattle.search.specs.declared.search.Stand.{Stand}
 use Rattle.search.specs.declared.search.Admission.{Admission}
-use Rattle.search.proofs.Least.{least-more}
+use Rattle.search.proofs.Least.{least-more, least-of}
 use Rattle.search.proofs.Waiting.{waits-skip, waits-more, waits-enabling}
 
 module _ {h : History} (held : Held h) (a : Admission) (known : a .next < h .count) where
@@ -86,3 +86,9 @@ admitting-ends {h} {s} {before} {a} {waiting} held m closed = record {
         enabling = waits-enabling (held .lawful) waits (m .room .next-within) (m .least) closed;
       };
 }
+
+-- once all operations have been enabled, none is left to be admitted
+pub admitted-all : {h : History} {s : Stand} {waiting : List ℕ} → Held h → Room h (s .next) (s .waiting) waiting → h .count ≤ s .next → Admitted h s waiting s waiting
+admitted-all {h} {s} {waiting} held room all =
+    let fits : s .waiting ≤ length waiting = omega (arith, room .within, room .next-within, room .sized, held .few) in
+    admitting-ends held (admitting-starts room (least-of (h .ret) (h .end) waiting (s .waiting) fits .1)) (λ next. omega (arith, next .0))

@@ -113,7 +113,8 @@ fn admit_next(
     }
 }
 
-// Lets all operations wait that are enabled: those called before the least return of what is left. They come in the order of their calls.
+// Moves every enabled operation onto the waiting list: those called before the least return of what is left, in the order of their calls. Once all
+// operations have been enabled, the least return is not needed.
 fn admit(
     table: &Operations,
     count: usize,
@@ -125,6 +126,9 @@ fn admit(
     requires { ⌜ Held (tabled count end (now table)) × Reaching (tabled count end (now table)) (now reach) × Room (tabled count end (now table)) (s .next) (s .waiting) (now waiting) ⌝ }
     ensures { λ t. ⌜ Admitted (tabled count end (now (table .entry))) s (now (waiting .entry)) t (now (waiting .exit)) ⌝ }
 {
+    if count <= s.next {
+        return s;
+    }
     let mut a = Admission {
         next: s.next,
         waiting: s.waiting,

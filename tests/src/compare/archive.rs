@@ -73,8 +73,8 @@ impl Archives {
     }
 }
 
-/// The verdict byte and the operations on the sheet for the log of these records, the archive of which
-/// is compared.
+/// The verdict byte and the operations on the sheet for the log of these records. Its archive is
+/// compared with the model's.
 pub fn verdict_of(records: &[Record]) -> (u8, Vec<u16>) {
     Archives::new().compare_records(records);
     let sheet = judged(&writer::log(records)).expect("a sheet");

@@ -14,8 +14,8 @@ fn slot_of(key: u32) -> u64 {
 
 /// Values and clients in the order in which logs are given them.
 pub struct Slots {
-    /// More values than a log can have, all of one slot: in turn one that is alike to others in its
-    /// high bits, and one that is alike to others in its low bits.
+    /// More values than a log can have, all of one slot: alternately values that agree in their high
+    /// bits and values that agree in their low bits.
     pub values: Vec<u32>,
     /// All clients, those of a slot one after the other: about 128 each.
     pub clients: Vec<u16>,
@@ -39,8 +39,9 @@ impl Default for Slots {
 }
 
 impl Slots {
-    /// The records with other values and clients, and no two alike that were not: the values all
-    /// share one slot, in the order in which they appear, and so do the clients 0 to 125.
+    /// The records with other values and clients, which are equal exactly where they were equal. The
+    /// values all share one slot, in the order in which they appear, and so do those for clients 0 to
+    /// 125.
     pub fn shared(&self, records: &[Record]) -> Vec<Record> {
         let mut unused = self.values.iter();
         let mut renamed: HashMap<u32, u32> = HashMap::new();

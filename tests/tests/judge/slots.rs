@@ -125,7 +125,7 @@ fn runs_of_a_queue_changed_in_one_place() {
     archives.assert_at_least([400, 40, 10, 100, 5, 25, 10]);
 }
 
-/// A remove takes another value of the slot, up to some that the log does not have.
+/// A remove takes another value of the slot; some of these the log does not have.
 #[test]
 fn runs_of_a_queue_in_which_a_remove_takes_any_value_of_the_slot() {
     let slots = Slots::default();
