@@ -119,6 +119,7 @@ static const struct sample samples[] = {
     {"64-clients", 512, 0, 512, sixty_four_clients},
     {"client-per-operation", 512, 0, 512, client_per_operation},
     {"calls-then-returns", 512, 0, 512, log_calls_then_returns},
+    {"one-tick", 512, 0, 512, log_one_tick},
     {"calls-shared-slot", 512, 0, 512, log_calls_then_returns_of_slots},
     {"values-reversed", 512, 0, 512, log_values_reversed},
     {"pending-pairs", 682, 0, 682, log_pending_pairs},

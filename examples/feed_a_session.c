@@ -6,7 +6,9 @@
 #include <stdio.h>
 #include <yauponroof.h>
 
-/* Client 1 adds 7; then client 2 removes and finds the queue empty, although 7 is there. */
+/* Client 1 adds 7; then client 2 removes and finds the queue empty, although 7 is there. The ticks are
+   1 to 4. The return of the add has a lower tick than the call of the remove, so the add precedes the
+   remove. */
 static const uint8_t records[][YR_RECORD_MAX] = {
     {11, 1, 0, 1, 0, 0, 0, 1, 0, 0, 0, 7},
     {7, 3, 0, 1, 0, 0, 0, 2},

@@ -9,7 +9,9 @@
 
 static uint8_t run[YR_LOG_MAX], sheet[YR_SHEET_MAX], excerpt[YR_LOG_MAX];
 
-/* Client 1 adds 7; then client 2 removes, and gets it or finds the queue empty. */
+/* Client 1 adds 7; then client 2 removes, and gets it or finds the queue empty. The tick rises with
+   every record. The return of the add has a lower tick than the call of the remove, so the add
+   precedes the remove. */
 static size_t record(int found)
 {
     yr_recorder recorder;

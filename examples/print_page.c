@@ -1,7 +1,9 @@
 /*
- * Prints the page of a log: a line for each operation, with a column for each record. Reads the log
- * from the file that is named, or from standard input. If the log is refused, or cannot be read, or
- * the page cannot be written, it says so on standard error, and the exit status is 2.
+ * Prints the page of a log: a line for each operation, with a column for each record as it stands in
+ * the log. Operations without a column in common overlap all the same if one returns and the other is
+ * called at the same tick, which a page does not show. Reads the log from the file that is named, or
+ * from standard input. If the log is refused, or cannot be read, or the page cannot be written, it
+ * says so on standard error, and the exit status is 2.
  */
 
 #include <stdio.h>

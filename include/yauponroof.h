@@ -1,5 +1,5 @@
 /*
- * yauponroof.h - a judge for logs of queue operations, version 0.6.0
+ * yauponroof.h - a judge for logs of queue operations, version 0.7.0
  *
  * A log tells the calls and the returns of operations on one queue, made by any number of clients.
  * yr_check says whether the log is readable and how many operations it has, or which record is at
@@ -30,9 +30,31 @@
  *        5  return of remove, empty           7
  *
  * Every client number, tick and value that fits its field is allowed. Value 0 is a value and does
- * not mean "empty". Ticks may stay equal from one record to the next and may not fall. Records are
- * counted from 0. Each call record begins an operation, and operations are numbered from 0 in the
- * order of their call records. An add may lack its return; a remove may not.
+ * not mean "empty". Records are counted from 0. Each call record begins an operation, and operations
+ * are numbered from 0 in the order of their call records, whatever their ticks. An add may lack its
+ * return; a remove may not.
+ *
+ * Ticks
+ * -----
+ * Ticks alone say what came first. An operation precedes another exactly if the tick of its return
+ * is lower than the tick of the other's call; two operations overlap if neither precedes the other.
+ * An add without return precedes nothing. Within one tick the order of the records is chance and
+ * tells nothing about time. If all ticks of a log are different, the order of its records is the
+ * order of the events.
+ *
+ * Ticks may stay equal from one record to the next and may not fall (6). A client's call needs a
+ * higher tick than that client's last return (31). An operation may begin and end within one tick.
+ *
+ * A rig takes the tick of a call no later than the moment at which the operation begins, and the
+ * tick of its return no earlier than the moment at which it has ended, from one clock that all
+ * clients share and that never goes back. Then every precedence in the log is real. A coarse clock,
+ * whose ticks many events share, loses precedences that were there. That can hide a fault but cannot
+ * invent one. yauponroof_recorder.h says how to take ticks.
+ *
+ * Up to version 0.6.0 the order of the records decided, and the only rule for ticks was that they do
+ * not fall. A log whose ticks are all different is judged as it was then. A log with one tick
+ * throughout, such as 0, now says that all operations overlap, and the second call of a client is
+ * refused in it (31).
  *
  * The sheet
  * ---------
@@ -44,19 +66,19 @@
  *
  * Legal orders
  * ------------
- * An operation precedes another if its return record stands before the call record of the other;
- * ticks do not count, and an add without return precedes nothing. An order is legal for a log if
+ * An order is legal for a log if
  *
  * - it lists every operation that has returned exactly once, each add that has not returned at most
  *   once, and no other number;
- * - no operation comes before one that precedes it;
+ * - no operation comes before one that precedes it (see "Ticks");
  * - done in that order on a queue that is empty at the start, each add puts its value at the back,
  *   each remove that returned a value takes that value from the front, and each remove that
  *   returned empty meets an empty queue.
  *
  * The patterns
  * ------------
- * A readable log has a legal order exactly if none of these occurs. "Precedes" is meant as above.
+ * A readable log has a legal order exactly if none of these occurs. "Precedes" goes by ticks, as
+ * above.
  *
  *     1  unknown      a remove returned a value that no add of the log names, returned or not;
  *                     lists the remove
@@ -70,15 +92,22 @@
  *     6  false empty  every gap of a remove that returned empty is covered; lists the remove, then
  *                     the adds of a chain
  *
- * A gap lies between two neighbouring records. Those of a remove run from its call to its return. A
- * value covers the gaps from the return of its add to the call of its remove, or to the end of the
- * log if it was never removed; the value of an add without return covers none. The chain begins with
- * the value that reaches furthest of those that cover the first gap, and goes on in the same way at
- * the first gap beyond it, until all gaps of the remove are covered. A value that was never removed
- * reaches furthest, and among several of these the lowest add is taken.
+ * For the gaps, records are taken by tick, within a tick the calls before the returns, and otherwise
+ * as they stand in the log. A gap lies between two neighbours in this sequence. The gaps of a remove
+ * run from its call to its return; there is at least one, even if both have the same tick. A value
+ * covers the gaps from the return of its add to the call of its remove, or to the end if it was
+ * never removed; the value of an add without return covers none. The chain begins with the value
+ * that reaches furthest of those that cover the first gap, and goes on in the same way at the first
+ * gap beyond it, until all gaps of the remove are covered. The later the call of its remove stands
+ * in the sequence, the further a value reaches. A value that was never removed reaches furthest, and
+ * among several of these the lowest add is taken.
  *
- * The lowest number that occurs is told. If it occurs more than once, the lowest list is told,
- * compared left to right.
+ * The lowest number that occurs is reported. If it occurs more than once, the lowest list is
+ * reported, compared left to right.
+ *
+ * The order of records within a tick does not change the verdict: if two neighbouring records of one
+ * tick and of different clients trade places, even a call with a return, byte 1 of the sheet stays
+ * as it is. Operation numbers and the list may change.
  *
  * The page
  * --------
@@ -94,6 +123,10 @@
  *     18 to 80  one character for each record, in the order of the log: # from the call of the
  *               operation to its return, both included, or to the last record if it has not
  *               returned; a dot for any other record; spaces after the last record
+ *
+ * Columns follow the records as they stand in the log, not the ticks. Two operations that have a
+ * column in common overlap. Two that have none overlap as well if the return of one and the call of
+ * the other have the same tick.
  *
  * The page of the log of no records is empty. An excerpt is a log of its own: its page has the
  * operation numbers of the excerpt, which are those on the excerpt's own sheet.
@@ -136,9 +169,9 @@
 extern "C" {
 #endif
 
-#define YR_VERSION "0.6.0"
+#define YR_VERSION "0.7.0"
 #define YR_VERSION_MAJOR 0
-#define YR_VERSION_MINOR 6
+#define YR_VERSION_MINOR 7
 #define YR_VERSION_PATCH 0
 
 /* The most records that a log may have. */
@@ -193,16 +226,16 @@ typedef struct yr_session {
 } yr_session;
 
 /*
- * All refusals. Those from 1 to 11, and 30, concern what was handed in, those from 20 to 25 how
- * things stand. A refused call writes to no buffer, and leaves the session as it was.
+ * All refusals. Those from 1 to 11, and 30 and 31, concern what was handed in, those from 20 to 25
+ * how things stand. A refused call writes to no buffer, and leaves the session as it was.
  *
- *     yr_check                1 to 10
- *     yr_replay               1 to 11
- *     yr_judge, yr_narrow     1 to 10, 24
- *     yr_excerpt              1 to 10, 23, 24
- *     yr_page                 1 to 10, 24, 30
+ *     yr_check                1 to 10, 31
+ *     yr_replay               1 to 11, 31
+ *     yr_judge, yr_narrow     1 to 10, 24, 31
+ *     yr_excerpt              1 to 10, 23, 24, 31
+ *     yr_page                 1 to 10, 24, 30, 31
  *     yr_begin                24
- *     yr_feed                 1, 4 to 9, 20, 21, 24, 25
+ *     yr_feed                 1, 4 to 9, 20, 21, 24, 25, 31
  *     yr_close                10, 20, 24, 25
  *     yr_sheet                22, 24, 25
  *     yr_session_excerpt      22 to 25
@@ -232,7 +265,8 @@ enum yr_refusal {
     YR_REFUSAL_SESSION = 25,         /* the session's stage or used bytes do not fit its buffer, or
                                         the bytes are no readable log (of an open session: readable
                                         but for 10) */
-    YR_REFUSAL_PAGE = 30             /* the page of a log of more than YR_PAGE_RECORDS records */
+    YR_REFUSAL_PAGE = 30,            /* the page of a log of more than YR_PAGE_RECORDS records */
+    YR_REFUSAL_TICK_REPEATED = 31    /* a call whose tick equals that of its client's last return */
 };
 
 /*
@@ -255,6 +289,7 @@ enum yr_refusal {
  *     5   L is not the kind's (index i)
  *     6   the tick is below that of the record before, whoever made that (index i)
  *     7   a call, and the client has an open call (index i)
+ *     31  a call, and its tick equals that of the client's last return (index i)
  *     8   a return, and the client has no open call of that operation (index i)
  *     9   a call of add, and an earlier record calls to add the same value (index i)
  *     then:
@@ -277,12 +312,12 @@ yr_answer yr_check(const uint8_t *log, size_t log_len);
  *
  * The first test that fails decides, in this order:
  *
- *     1 to 10  the log is not readable: the refusal and the index that yr_check gives, whatever the
- *              sheet is
- *     11       the sheet has fewer than 4 bytes (index 0)
- *     11       the version of the sheet is not 1 (index 0)
- *     11       the verdict is not 0 (index 0)
- *     11       the length of the sheet is not 4 + 2k (index 0)
+ *     1 to 10, 31  the log is not readable: the refusal and the index that yr_check gives, whatever
+ *                  the sheet is
+ *     11           the sheet has fewer than 4 bytes (index 0)
+ *     11           the version of the sheet is not 1 (index 0)
+ *     11           the verdict is not 0 (index 0)
+ *     11           the length of the sheet is not 4 + 2k (index 0)
  *
  * Nothing is refused for what the sheet lists. An operation listed twice, one left out that has
  * returned, or a number that the log lacks gives no. An add without return may be listed once or
@@ -312,9 +347,9 @@ yr_answer yr_replay(const uint8_t *log, size_t log_len, const uint8_t *sheet, si
  *
  * The first test that fails decides, in this order:
  *
- *     1 to 10  the log is not readable: the refusal and the index that yr_check gives, whatever the
- *              sheet is
- *     24       sheet_len is below 4 + 2k (index 0)
+ *     1 to 10, 31  the log is not readable: the refusal and the index that yr_check gives, whatever
+ *                  the sheet is
+ *     24           sheet_len is below 4 + 2k (index 0)
  *
  * An accepted call writes the first 4 + 2k bytes of the sheet and leaves those behind them as they
  * were; a refused one leaves all as they were. The log is never written to. Less than 64 KiB of
@@ -338,10 +373,10 @@ yr_answer yr_judge(const uint8_t *log, size_t log_len, uint8_t *sheet, size_t sh
  *
  * The first test that fails decides, in this order:
  *
- *     1 to 10  the log is not readable: the refusal and the index that yr_check gives, whatever
- *              out_len is
- *     23       the verdict on the log is an order, whatever out_len is (index 0)
- *     24       out_len is below the length of the excerpt (index 0)
+ *     1 to 10, 31  the log is not readable: the refusal and the index that yr_check gives, whatever
+ *                  out_len is
+ *     23           the verdict on the log is an order, whatever out_len is (index 0)
+ *     24           out_len is below the length of the excerpt (index 0)
  *
  * An accepted call writes the bytes of the excerpt and leaves those behind them as they were; a
  * refused one leaves all as they were. The log is never written to. Less than 64 KiB of stack is
@@ -368,9 +403,9 @@ yr_answer yr_excerpt(const uint8_t *log, size_t log_len, uint8_t *out, size_t ou
  *
  * The first test that fails decides, in this order:
  *
- *     1 to 10  the log is not readable: the refusal and the index that yr_check gives, whatever
- *              out_len is
- *     24       out_len is below the number of bytes to write (index 0)
+ *     1 to 10, 31  the log is not readable: the refusal and the index that yr_check gives, whatever
+ *                  out_len is
+ *     24           out_len is below the number of bytes to write (index 0)
  *
  * An accepted call writes its bytes and leaves those behind them as they were; a refused one leaves
  * all as they were. The log and the values are never written to. Less than 64 KiB of stack is used
@@ -392,10 +427,10 @@ yr_answer yr_narrow(const uint8_t *log, size_t log_len, const uint32_t *values, 
  *
  * The first test that fails decides, in this order:
  *
- *     1 to 10  the log is not readable: the refusal and the index that yr_check gives, whatever
- *              page_len is
- *     30       the log has more than YR_PAGE_RECORDS records, whatever page_len is (index 0)
- *     24       page_len is below 81 for each operation (index 0)
+ *     1 to 10, 31  the log is not readable: the refusal and the index that yr_check gives, whatever
+ *                  page_len is
+ *     30           the log has more than YR_PAGE_RECORDS records, whatever page_len is (index 0)
+ *     24           page_len is below 81 for each operation (index 0)
  *
  * An accepted call writes the bytes of the page and leaves those after them as they were; no zero
  * follows the page. A refused call leaves all as they were. The log is never written to. Less than
@@ -444,6 +479,7 @@ yr_answer yr_begin(yr_session *s, uint8_t *buf, size_t len);
  *     5   L is not the kind's (index n)
  *     6   the tick is below that of the last record held (index n)
  *     7   a call, and the client has an open call (index n)
+ *     31  a call, and its tick equals that of the client's last return (index n)
  *     8   a return, and the client has no open call of that operation (index n)
  *     9   a call of add, and a record held calls to add the same value (index n)
  *     24  len is below the used bytes and 1 + L more (index 0)

@@ -32,32 +32,68 @@
  * library are right for the log and know nothing of the run behind it. A mistake here or in the
  * caller shows in one of two ways.
  *
- * The log is refused. The recorder does not look at clients, ticks and values. yr_check does, and
- * refuses a log in which a tick is below the one before it (6), a client calls while its last call
- * is open (7) or returns what it has not called (8), a value is added a second time (9), or a remove
- * has not returned (10).
+ * The log is refused. The recorder does not look at clients, ticks and values. yr_check does, as do
+ * yr_judge and all others that take a log, and yr_feed for each record. They refuse a log in which a
+ * tick is below the one before it (6), a client calls while its last call is open (7), calls with the
+ * tick of its last return (31) or returns what it has not called (8), a value is added a second time
+ * (9), or a remove has not returned (10).
  *
  * Or the verdict is on another history than the one that ran:
  *
- * - A call that is recorded after the operation began, or a return before it ended, makes the
- *   operation look shorter than it was: operations that overlapped it then seem to come before or
- *   after it, and a correct queue may be given a pattern. So record the call before the operation
- *   begins, and the return after it has ended. That can only make the operation look longer: a
- *   correct queue still has an order, though a fault may be missed.
+ * - A call whose tick was taken after the operation began, or a return whose tick was taken before it
+ *   ended, makes the operation look shorter than it was: operations that overlapped it then seem to
+ *   come before or after it, and a correct queue may be given a pattern. So take the tick of the call
+ *   before the operation begins, and the tick of the return after it has ended. That can only make
+ *   the operation look longer: a correct queue still has an order, though a fault may be missed.
  * - An operation that is not recorded changes what the log says of the others. Without its add, a
  *   value that is removed gives pattern 1. Without its remove, a value counts as still there, and a
  *   correct queue may be given pattern 4 or 6. Without both, the faults of a value are missed. So
  *   record every operation, starting from an empty queue, and do not begin one whose call was not
  *   taken.
  *
+ * Ticks
+ * -----
+ * An operation precedes another exactly if the tick of its return is lower than the tick of the
+ * other's call. The order in which records of one tick are appended tells nothing. So the more
+ * records share a tick, the more operations overlap in the log, and the fewer faults show. One tick
+ * for all records, such as 0, leaves only patterns 1 and 2 to be found.
+ *
+ * It is best if no two records share a tick, and a counter that all clients share gives that (see
+ * "Several threads"). A single thread that appends the records as they happen can pass the member
+ * "records" of the recorder as the tick, which is 0 at first and rises with every record.
+ *
+ * A clock does as well, also a coarse one, whose ticks many records share, such as one of
+ * milliseconds or the number of a batch of events. It has to be one clock for all clients, and must
+ * never go back. Then it can hide faults but cannot invent one, if the rig keeps these rules:
+ *
+ * - The client takes both ticks itself: reads the clock, then begins the operation; ends the
+ *   operation, then reads the clock. An atomic_thread_fence(memory_order_seq_cst) belongs between
+ *   the reading and the operation, on both sides. Without it the processor may read the clock for
+ *   the return before others see what the operation has written.
+ * - A recorder that gathers events from one client after the other must not give all that it has
+ *   gathered in one go the same tick, unless the clients stand still meanwhile. Say it visits client
+ *   1, then client 1 calls an operation, then one of client 2 ends, then it visits client 2. The
+ *   call waits for the next visit and gets a higher tick than the return, so the log claims an order
+ *   that was not there. Gather the ticks that the clients took.
+ * - A tick has 32 bits. Count from the start of the run, in units that are not too small: nanoseconds
+ *   start again at 0 after some 4 seconds, and a log that is sorted by such ticks is wrong.
+ * - Append the records in the order of their ticks (6), and those of each client in the order in
+ *   which they happened (7, 8). A stable sort by tick does both.
+ * - A client whose next call would get the tick of its last return waits until the clock shows a
+ *   higher one, and takes that (31). Where it cannot wait, take a finer clock, or the counter. Do not
+ *   mend the ticks afterwards: a call with a higher tick than it had, or a return with a lower one,
+ *   claims an order that may not have been there. A client number of its own for each operation
+ *   avoids 31 too; the log then does not tell that the operations of one client followed each other.
+ *
  * Several threads
  * ---------------
- * A recorder and its buffer are for one thread at a time. With a lock around the recorder the log
- * would still be right, but the clients would wait for each other between their operations, which
- * hides faults. Rather let each client number its calls and returns from one atomic counter, with
- * sequentially consistent increments, and keep them to itself; after the run append those of all
- * clients in the order of their numbers, with the numbers as ticks. 512 operations that all return
- * always fit into YR_LOG_MAX bytes.
+ * A recorder and its buffer are for one thread at a time. With a lock around the recorder, and ticks
+ * that rise with every record, the log would still be right, but the clients would wait for each
+ * other between their operations, which hides faults. Rather let each client number its calls and
+ * returns from one atomic counter, with sequentially consistent increments (atomic_fetch_add), and
+ * keep them to itself; after the run append those of all clients in the order of their numbers, with
+ * the numbers as ticks. All ticks are then different, so that 6 and 31 cannot occur. 512 operations
+ * that all return always fit into YR_LOG_MAX bytes.
  */
 
 #ifndef YAUPONROOF_RECORDER_H
@@ -167,7 +203,8 @@ static inline void yr_recorder_append(yr_recorder *r, enum yr_recorder_size size
  *
  * In:   r       a recorder that was begun; never NULL
  *       client  any number, by which the records of a client are known
- *       tick    any number that is not below the tick of the record before
+ *       tick    any number that is not below the tick of the record before; of a call also not that
+ *               of the client's last return. The recorder tests neither: see "What can go wrong"
  *       value   of an add any number that no add before it has; of a remove what it returned
  * Out:  1 if the record was taken: it stands at the end of the log, and the log's count and length
  *       tell of it.

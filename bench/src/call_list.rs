@@ -1,7 +1,8 @@
-//! The calls and returns of a log in a doubly linked list. The two entries of an operation that has
-//! been placed are lifted out, and put back when it is taken back, in constant time each.
+//! The calls and returns of a log in a doubly linked list, by tick and within a tick the calls first,
+//! so that a return stands before a call exactly if its tick is lower. The two entries of an operation
+//! that has been placed are lifted out, and put back when it is taken back, in constant time each.
 
-use yauponroof_tests::model::history::Operation;
+use yauponroof_tests::model::history::{Operation, Stamp};
 
 /// What an entry of the list stands for.
 #[derive(Clone, Copy)]
@@ -12,8 +13,8 @@ pub enum Event {
     Barrier,
 }
 
-/// The entry of record i is the one with the index i + 1. An entry before the first record and one
-/// behind the last are never lifted out.
+/// The entry of the record that is taken as number i is the one with the index i + 1. An entry before
+/// the first record and one behind the last are never lifted out.
 pub struct CallList {
     entries: Vec<Entry>,
 }
@@ -27,22 +28,21 @@ struct Entry {
 
 const START: usize = 0;
 
-fn entry_of(record: usize) -> usize {
-    record + 1
+fn entry_of(record: Stamp) -> usize {
+    record.place + 1
 }
 
 impl CallList {
     /// The list of all records of these operations.
     pub fn new(operations: &[Operation]) -> CallList {
-        let last_record = |o: &Operation| o.returned.unwrap_or(o.call);
-        let records = operations.iter().map(|o| last_record(o) + 1).max();
+        let last_entry = |o: &Operation| entry_of(o.returned.unwrap_or(o.call));
+        let end = operations.iter().map(last_entry).max().unwrap_or(START) + 1;
         let linked = |index: u32| Entry {
             before: index.wrapping_sub(1),
             behind: index + 1,
             event: Event::Barrier,
         };
-        let end = entry_of(records.unwrap_or(0)) as u32;
-        let mut entries: Vec<Entry> = (0..=end).map(linked).collect();
+        let mut entries: Vec<Entry> = (0..=end as u32).map(linked).collect();
         for (number, operation) in (0..).zip(operations) {
             entries[entry_of(operation.call)].event = Event::Call(number);
         }

@@ -1,6 +1,6 @@
 //! The search of Wing and Gong for a legal order (a linearization), with Lowe's cache or without. It
 //! places one operation after the other. Next may come any operation that was called before the first
-//! return of one that is not placed; they are tried in the order of their calls. If none of them can
+//! return of one that is not placed, or at its tick; they are tried in the order of their calls. If none of them can
 //! come next, the latest one is taken back. What Lowe added is to remember every configuration, so
 //! that none is entered twice. The search knows a queue only as something that operations are run on.
 
@@ -127,14 +127,17 @@ mod tests {
 
     use yauponroof_tests::logs::changes::near_outcomes_exchanged;
     use yauponroof_tests::logs::enumerate::{
-        every_log, random_log, random_log_of_paired_operations,
+        every_log, every_log_with_joined_ticks, random_log, random_log_of_paired_operations,
     };
     use yauponroof_tests::logs::samples::calls_then_returns;
     use yauponroof_tests::logs::simulation::{simulate_run, Clients};
+    use yauponroof_tests::logs::ticks::in_batches;
     use yauponroof_tests::model::history::operations;
     use yauponroof_tests::model::linearization::is_linearization;
+    use yauponroof_tests::model::reader;
     use yauponroof_tests::model::record::Record;
     use yauponroof_tests::model::search::has_linearization;
+    use yauponroof_tests::model::writer::log;
     use yauponroof_tests::random::Random;
 
     use super::{search, Limit, Outcome};
@@ -183,6 +186,17 @@ mod tests {
     }
 
     #[test]
+    fn every_shorter_log_with_ticks_joined_in_every_way() {
+        let mut seen = Seen::default();
+        every_log_with_joined_ticks(5, &mut |records| {
+            if reader::read(&log(records)).is_ok() {
+                seen.compare(records);
+            }
+        });
+        assert_eq!((seen.orders, seen.no_orders), (4392, 5250));
+    }
+
+    #[test]
     fn random_logs() {
         let mut random = Random::new(301);
         let mut seen = Seen::default();
@@ -199,9 +213,11 @@ mod tests {
         let mut seen = Seen::default();
         for _ in 0..5000 {
             let count = 1 + random.below(11);
-            seen.compare(&random_log_of_paired_operations(count, &mut random));
+            let records = random_log_of_paired_operations(count, &mut random);
+            seen.compare(&records);
+            seen.compare(&in_batches(&records, 3, &mut random));
         }
-        seen.assert_at_least(1000, 1000);
+        seen.assert_at_least(2000, 2000);
     }
 
     /// Runs of a correct queue of which some adds stay pending, and the same with two outcomes

@@ -2,11 +2,16 @@
  * Why the log tells no precedence that was not there
  * --------------------------------------------------
  * All clients take numbers from one counter. A client takes a number before it calls an operation
- * and another after the operation has returned, and the two stand for the call and the return in the
- * log. The true operation lies between them. So if the log has the return of o before the call of p,
- * o had ended when its second number was taken, that was before the first number of p was taken, and
- * p began after that: what precedes in the log has preceded in truth. The order in which a correct
- * queue did the operations is then legal for the log, and the queue is not failed.
+ * and another after the operation has returned, and the two are the ticks of the call and the return
+ * in the log. The true operation lies between them. So if the tick of o's return is lower than the
+ * tick of p's call, o had ended when its second number was taken, that was before the first number of
+ * p was taken, and p began after that: what precedes in the log has preceded in truth. The order in
+ * which a correct queue did the operations is then legal for the log, and the queue is not failed.
+ *
+ * Each number is taken once, so all ticks are different: the record with index i has tick i, no two
+ * events fall into one tick, and a client's call always has a higher tick than its last return, which
+ * the judge asks for (refusal 31). A clock in place of the counter would be right as well, but where
+ * events share a tick, more operations overlap in the log, and fewer faults are seen.
  *
  * The other way round does not hold. Operations that overlap in the log may have been apart in truth,
  * so that a fault can go unseen in one round and be seen in another.
@@ -42,7 +47,7 @@ struct operation {
     int yields;                 /* whether the client lets others go first */
     int done;                   /* whether a value was added or removed */
     uint32_t value;             /* that value */
-    unsigned called, returned;  /* the numbers taken before and after it */
+    unsigned called, returned;  /* the numbers taken before and after it, its ticks */
 };
 
 struct client {

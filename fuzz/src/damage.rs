@@ -31,8 +31,8 @@ impl Damage {
     }
 }
 
-/// A record is left out, stands there twice, trades places with the next, or tells the client or the
-/// event of the next.
+/// A record is left out, stands there twice, trades places with the next, tells the client or the
+/// event of the next, or has the tick of the last one of its client.
 fn damage_record(records: &mut Vec<Record>, way: u8, place: u8) {
     if records.is_empty() {
         return;
@@ -47,7 +47,17 @@ fn damage_record(records: &mut Vec<Record>, way: u8, place: u8) {
         4 => records.swap(at, next),
         5 => records[at].client = records[next].client,
         6 => records[at].event = records[next].event,
+        7 => join_back(records, at),
         _ => {}
+    }
+}
+
+/// Gives the record, and all before it as far as the last one of its client, the tick of that one.
+fn join_back(records: &mut [Record], at: usize) {
+    let client = records[at].client;
+    if let Some(last) = (0..at).rfind(|&before| records[before].client == client) {
+        let tick = records[last].tick;
+        records[last..=at].iter_mut().for_each(|r| r.tick = tick);
     }
 }
 

@@ -27,8 +27,8 @@ pub enum Of {
 /// others are refusals. 21 of a feed is not: no input here holds 1,024 records. Refused logs are counted
 /// at yr_check and yr_replay; that the other calls refuse them alike is compared.
 const TO_REACH: [(&str, &[usize]); 14] = [
-    ("yr_check", &[0, 1, 2, 3, 4, 5, 6, 7, 8, 9, 10]),
-    ("yr_replay", &[0, 1, 2, 3, 4, 5, 6, 7, 8, 9, 10, 11]),
+    ("yr_check", &[0, 1, 2, 3, 4, 5, 6, 7, 8, 9, 10, 31]),
+    ("yr_replay", &[0, 1, 2, 3, 4, 5, 6, 7, 8, 9, 10, 11, 31]),
     ("yr_replay, no and yes", &[0, 1]),
     ("yr_judge", &[0, 24]),
     ("yr_judge, verdict", &[0, 1, 2, 3, 4, 5, 6]),
@@ -37,7 +37,7 @@ const TO_REACH: [(&str, &[usize]); 14] = [
     ("yr_page", &[0, 24, 30]),
     ("yr_page, no lines and some", &[0, 1]),
     ("yr_begin", &[0, 24]),
-    ("yr_feed", &[0, 1, 4, 5, 6, 7, 8, 9, 20, 24, 25]),
+    ("yr_feed", &[0, 1, 4, 5, 6, 7, 8, 9, 20, 24, 25, 31]),
     ("yr_close", &[0, 10, 20, 24, 25]),
     ("yr_sheet", &[0, 22, 24, 25]),
     ("yr_session_excerpt", &[0, 22, 23, 24, 25]),

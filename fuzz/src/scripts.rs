@@ -3,7 +3,7 @@
 
 use yauponroof_tests::compare::script::{play, Step};
 use yauponroof_tests::compare::session::{Compared, Entry};
-use yauponroof_tests::model::record::Record;
+use yauponroof_tests::model::record::{call_remove, Record};
 use yauponroof_tests::model::session::{CLOSED, OPEN};
 use yauponroof_tests::model::writer::record_bytes;
 
@@ -30,6 +30,8 @@ pub struct Player<'a> {
     writer: Writer,
     /// The writer from the first record on.
     first: Writer,
+    /// The record that was fed last of those that were accepted.
+    last_fed: Option<Record>,
     reached: &'a mut Reached,
 }
 
@@ -41,6 +43,7 @@ impl<'a> Player<'a> {
             session: Compared::new(2 * usize::from(!how.byte())),
             first: writer.clone(),
             writer,
+            last_fed: None,
             reached,
         };
         if how.below(32) < 31 {
@@ -103,8 +106,9 @@ impl<'a> Player<'a> {
 
     fn feed(&mut self, choices: &mut Choices) {
         let mut writer = self.writer.clone();
-        let record = writer.record(choices);
-        self.feed_from(writer, &record);
+        if let Some(record) = writer.record(choices) {
+            self.feed_from(writer, &record);
+        }
     }
 
     /// Feeds a record, and whether it is accepted. If so, this is how the writer goes on.
@@ -114,6 +118,7 @@ impl<'a> Player<'a> {
         let is_accepted = self.session.state().used() != used;
         if is_accepted {
             self.writer = writer;
+            self.last_fed = Some(*record);
         }
         is_accepted
     }
@@ -131,12 +136,15 @@ impl<'a> Player<'a> {
 
     /// Feeds bytes that are seldom a record which the session takes.
     fn feed_damaged(&mut self, choices: &mut Choices) {
-        let mut bytes = record_bytes(&self.writer.clone().record(choices));
+        let record = self.writer.clone().record(choices);
+        let mut bytes = record.map_or(vec![0], |record| record_bytes(&record));
         let at = choices.below(bytes.len());
-        match choices.below(4) {
-            0 => bytes.truncate(at),
-            1 => bytes.resize(bytes.len() + 1 + at, 0),
-            2 => bytes[at] = choices.byte(),
+        match (choices.below(5), self.last_fed) {
+            (0, _) => bytes.truncate(at),
+            (1, _) => bytes.resize(bytes.len() + 1 + at, 0),
+            (2, _) => bytes[at] = choices.byte(),
+            // The client of the last record calls at its tick.
+            (3, Some(last)) => bytes = record_bytes(&call_remove(last.client, last.tick)),
             _ => {
                 bytes[0] = at as u8;
                 bytes.resize(1 + at, 0);

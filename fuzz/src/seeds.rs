@@ -100,13 +100,17 @@ fn written(choices: &[u8]) -> [Vec<u8>; 3] {
     ]
 }
 
-/// The choices by which a writer writes such records: by the same clients, with other ticks, and with
-/// the values numbered in the order of their adds.
+/// The choices by which a writer writes such records: by the same clients, with ticks that rise by one
+/// from 1, and with the values numbered in the order of their adds.
 fn choices_for(records: &[Record]) -> Vec<u8> {
     let mut writer = Writer::new(&mut Choices::new(&[]));
     let mut choices = Vec::new();
-    for record in records {
-        let such = (record.client, with_value_numbered(record.event, records));
+    for (tick, record) in (1..).zip(records) {
+        let such = Record {
+            client: record.client,
+            tick,
+            event: with_value_numbered(record.event, records),
+        };
         let (choice, next) = choice_for(such, &writer).expect("a choice for each record");
         choices.push(choice);
         writer = next;
@@ -114,12 +118,12 @@ fn choices_for(records: &[Record]) -> Vec<u8> {
     choices
 }
 
-/// The choice by which the writer writes a record of that client and event, and how it goes on.
-fn choice_for(such: (u16, Event), writer: &Writer) -> Option<(u8, Writer)> {
+/// The choice by which the writer writes that record, and how it goes on.
+fn choice_for(such: Record, writer: &Writer) -> Option<(u8, Writer)> {
     (0..=255).find_map(|choice| {
         let mut next = writer.clone();
-        let written = next.record(&mut Choices::new(&[choice]));
-        ((written.client, written.event) == such).then_some((choice, next))
+        let written = next.record(&mut Choices::new(&[choice]))?;
+        (written == such).then_some((choice, next))
     })
 }
 

@@ -1,5 +1,6 @@
-//! A writer of readable logs: a few clients, whose operations overlap. What a remove returns is
-//! mostly what a correct queue could give it, so that many logs have an order or nearly do.
+//! A writer of readable logs: a few clients, whose operations overlap, and ticks that are often equal.
+//! What a remove returns is mostly what a correct queue could give it, so that many logs have an order
+//! or nearly do.
 
 use yauponroof_tests::model::reader;
 use yauponroof_tests::model::record::{
@@ -26,7 +27,7 @@ const FIRST_TICKS: [u32; 4] = [0, 1, 0x00FF_FFFE, u32::MAX - 2];
 pub fn written_records(mut writer: Writer, mut choices: Choices) -> Vec<Record> {
     let mut records = Vec::new();
     while !choices.is_empty() && records.len() < MOST_RECORDS {
-        records.push(writer.record(&mut choices));
+        records.extend(writer.record(&mut choices));
     }
     while let Some(record) = writer.lacking_return(&mut choices) {
         records.push(record);
@@ -50,6 +51,8 @@ pub struct Writer {
     value_step: u32,
     tick: u32,
     work: [Work; CLIENTS],
+    /// The tick of the last return of each client that has returned.
+    returned: [Option<u32>; CLIENTS],
     /// How many adds were called. The values are numbered in that order.
     added: u32,
     /// The numbers of the values that were added and that no remove has returned.
@@ -66,24 +69,29 @@ impl Writer {
             value_step: how.pick(&VALUE_STEPS),
             tick: how.pick(&FIRST_TICKS),
             work: [Work::Idle; CLIENTS],
+            returned: [None; CLIENTS],
             added: 0,
             left: Vec::new(),
             last_removed: 0,
         }
     }
 
-    /// The next record, from one byte: which client, what it does, and whether the tick rises.
-    pub fn record(&mut self, choices: &mut Choices) -> Record {
+    /// The next record, from one byte: which client, what it does, and whether the tick rises. It also
+    /// rises before a call at the tick of its client's last return; where it cannot, there is none.
+    pub fn record(&mut self, choices: &mut Choices) -> Option<Record> {
         let byte = choices.byte();
         let client = usize::from(byte) % CLIENTS;
         let choice = usize::from(byte) / CLIENTS;
         self.tick = self.tick.saturating_add((choice % 3 % 2) as u32);
-        match self.work[client] {
+        if self.work[client] == Work::Idle && self.returned[client] == Some(self.tick) {
+            self.tick = self.tick.checked_add(1)?;
+        }
+        Some(match self.work[client] {
             Work::Idle if choice % 2 == 0 => self.call_add(client),
             Work::Idle => self.call_remove(client),
             Work::Add => self.return_add(client),
             Work::Remove => self.return_remove(client, choice),
-        }
+        })
     }
 
     /// The return of a remove that lacks it, if there is one.
@@ -106,12 +114,12 @@ impl Writer {
     }
 
     fn return_add(&mut self, client: usize) -> Record {
-        self.work[client] = Work::Idle;
+        self.end(client);
         return_add(self.client(client), self.tick)
     }
 
     fn return_remove(&mut self, client: usize, choice: usize) -> Record {
-        self.work[client] = Work::Idle;
+        self.end(client);
         match self.removed(choice) {
             Some(number) => {
                 self.last_removed = number;
@@ -119,6 +127,12 @@ impl Writer {
             }
             None => return_empty(self.client(client), self.tick),
         }
+    }
+
+    /// The client's operation returns.
+    fn end(&mut self, client: usize) {
+        self.work[client] = Work::Idle;
+        self.returned[client] = Some(self.tick);
     }
 
     /// The number of the value that a remove returns; none for empty. Mostly it is the one that was

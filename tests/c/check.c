@@ -110,6 +110,39 @@ static void check_records(void)
     expect_log(&log, 0, 2, "the tick stays 1");
 }
 
+/* Calls at the tick of a return: of the client's own last one, and of others. */
+static void check_repeated_ticks(void)
+{
+    struct log log;
+
+    log_begin(&log);
+    log_record(&log, CALL_ADD, 1, 7);
+    log_record(&log, RETURN_ADD, 1, 0);
+    log_record(&log, CALL_ADD, 1, 8);
+    expect_log(&log, 0, 2, "client 1 calls one tick after its return");
+    log_join(&log, 2);
+    expect_log(&log, YR_REFUSAL_TICK_REPEATED, 2, "client 1 calls at the tick of its return");
+    log.bytes[log_start(&log, 2) + 3] = 2;
+    expect_log(&log, 0, 2, "client 2 calls at that tick");
+
+    log_begin(&log);
+    log_record(&log, CALL_ADD, 1, 7);
+    log_record(&log, RETURN_ADD, 1, 0);
+    log_record(&log, CALL_ADD, 1, 7);
+    expect_log(&log, YR_REFUSAL_VALUE, 2, "7 is added again");
+    log_join(&log, 2);
+    expect_log(&log, YR_REFUSAL_TICK_REPEATED, 2, "7 is added again, at the tick of the return");
+
+    log_begin(&log);
+    log_record(&log, CALL_REMOVE, 1, 0);
+    log_record(&log, RETURN_EMPTY, 1, 0);
+    log_record(&log, CALL_REMOVE, 2, 0);
+    log_record(&log, CALL_REMOVE, 1, 0);
+    expect_log(&log, YR_REFUSAL_PENDING_REMOVE, 2, "two removes do not return");
+    log_join_all(&log);
+    expect_log(&log, YR_REFUSAL_TICK_REPEATED, 3, "client 1 called at the tick of its return");
+}
+
 static void check_largest(void)
 {
     static struct log log, copy;
@@ -126,6 +159,8 @@ static void check_largest(void)
     expect_log(&log, 0, 1024, "1,024 adds of values that share a slot");
     log_calls_then_returns(&log, &order);
     expect_log(&log, 0, 512, "512 calls, then their returns");
+    log_one_tick(&log, &order);
+    expect_log(&log, 0, 512, "512 calls, then their returns, all of one tick");
     log_simulate(&log, &order, CLIENTS_REUSED);
     expect_log(&log, 0, 512, "a run of 8 clients");
     log_simulate(&log, &order, CLIENT_PER_OPERATION);
@@ -139,6 +174,7 @@ int main(void)
     check_headers();
     check_single_records();
     check_records();
+    check_repeated_ticks();
     check_largest();
     return counted();
 }

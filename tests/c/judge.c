@@ -114,6 +114,34 @@ static void check_patterns(void)
     expect_sheet(false_empty, sizeof false_empty, "pattern 6");
 }
 
+/* Within a tick nothing precedes anything. */
+static void check_equal_ticks(void)
+{
+    const uint8_t stuck[] = {1, 4, 0, 3, 0, 0, 0, 1, 0, 2};
+    const uint8_t false_empty[] = {1, 6, 0, 2, 0, 1, 0, 0};
+    log_begin(&run);
+    log_record(&run, CALL_ADD, 1, 1);
+    log_record(&run, RETURN_ADD, 1, 0);
+    log_record(&run, CALL_ADD, 2, 2);
+    log_record(&run, RETURN_ADD, 2, 0);
+    log_record(&run, CALL_REMOVE, 3, 0);
+    log_record(&run, RETURN_VALUE, 3, 2);
+    expect_sheet(stuck, sizeof stuck, "the add of 1 returns before that of 2 is called");
+    log_join(&run, 2);
+    expect_order(3, "the add of 1 returns at the tick at which that of 2 is called");
+
+    log_begin(&run);
+    log_record(&run, CALL_ADD, 1, 1);
+    log_record(&run, RETURN_ADD, 1, 0);
+    log_record(&run, CALL_REMOVE, 2, 0);
+    log_record(&run, RETURN_EMPTY, 2, 0);
+    expect_sheet(false_empty, sizeof false_empty, "an empty remove behind an add");
+    log_join(&run, 3);
+    expect_sheet(false_empty, sizeof false_empty, "an empty remove within one tick");
+    log_join(&run, 2);
+    expect_order(2, "an empty remove is called at the tick at which the add returns");
+}
+
 static void check_refused_logs(void)
 {
     log_begin(&run);
@@ -158,6 +186,8 @@ static void check_largest(void)
     expect_order(512, "a run of 8 clients, at the end of which the queue is empty");
     log_calls_then_returns(&run, &order);
     expect_order(512, "512 calls, then their returns");
+    log_one_tick(&run, &order);
+    expect_order(512, "512 calls, then their returns, all of one tick");
     log_calls_then_returns_of_slots(&run, &order);
     expect_order(512, "512 calls, then their returns, by clients that share slots");
     log_values_reversed(&run, &order);
@@ -195,6 +225,7 @@ int main(void)
     check_second_run();
     check_pending_add();
     check_patterns();
+    check_equal_ticks();
     check_refused_logs();
     check_late_patterns();
     check_largest();

@@ -1,7 +1,7 @@
 /*
  * Logs for the C tests and the measurements. A log is written record by record into a struct log;
- * the ticks rise by one. Beside the logs of a correct queue stands an order that is legal for them;
- * beside those with a pattern stands the sheet of no operations.
+ * the ticks rise by one, unless they are then joined. Beside the logs of a correct queue stands an
+ * order that is legal for them; beside those with a pattern stands the sheet of no operations.
  */
 
 #ifndef LOGS_H
@@ -83,6 +83,20 @@ static inline size_t log_start(const struct log *log, unsigned i)
     return start;
 }
 
+/* Gives record i the tick of the record before it. */
+static inline void log_join(struct log *log, unsigned i)
+{
+    enum { TICK = 4 };
+    memcpy(log->bytes + log_start(log, i) + TICK, log->bytes + log_start(log, i - 1) + TICK, 4);
+}
+
+/* Gives all records the tick of the first. */
+static inline void log_join_all(struct log *log)
+{
+    for (unsigned i = 1; i < log->records; i++)
+        log_join(log, i);
+}
+
 /* n adds that never return, a client each. */
 static inline void log_pending_adds(struct log *log, unsigned n)
 {
@@ -129,6 +143,12 @@ static inline void log_each_refused(struct log *log,
     expect(YR_REFUSAL_PENDING_REMOVE, 1, "a remove without return");
     log_record(log, RETURN_ADD, 2, 0);
     expect(YR_REFUSAL_RETURN, 2, "a remove returns as an add");
+    log_begin(log);
+    log_record(log, CALL_ADD, 1, 7);
+    log_record(log, RETURN_ADD, 1, 0);
+    log_record(log, CALL_REMOVE, 1, 0);
+    log_join(log, 2);
+    expect(YR_REFUSAL_TICK_REPEATED, 2, "client 1 calls at the tick of its return");
     log_pending_adds(log, YR_MAX_RECORDS + 1);
     expect(YR_REFUSAL_RECORDS, 0, "1,025 adds");
 }
@@ -155,6 +175,13 @@ static inline void log_calls_then_returns(struct log *log, struct sheet *order)
     for (unsigned i = 0; i < 512; i++)
         clients[i] = i;
     log_calls_then_returns_by(log, order, clients);
+}
+
+/* The same with all records of one tick. */
+static inline void log_one_tick(struct log *log, struct sheet *order)
+{
+    log_calls_then_returns(log, order);
+    log_join_all(log);
 }
 
 /* The clients share 4 slots of the map: all of the slots 0 to 2, and all but one of

@@ -105,6 +105,24 @@ static void check_pending_add(void)
     expect_order(0, NO, "a removed value without its add");
 }
 
+/* Two adds one after the other, at ticks apart and at one tick. */
+static void check_equal_ticks(void)
+{
+    log_begin(&run);
+    log_record(&run, CALL_ADD, 1, 1);
+    log_record(&run, RETURN_ADD, 1, 0);
+    log_record(&run, CALL_ADD, 2, 2);
+    log_record(&run, RETURN_ADD, 2, 0);
+    sheet_begin(&order);
+    sheet_list(&order, 1);
+    sheet_list(&order, 0);
+    expect_order(0, NO, "the later add first");
+    log_join(&run, 2);
+    expect_order(0, YES, "the later add first, where it is called at the tick of the return");
+    log_join_all(&run);
+    expect_order(0, YES, "the later add first, all of one tick");
+}
+
 /* The order is legal, and with another number in its last place it is not: that operation is then
    listed twice. Neither the log nor the sheet is changed. */
 static void check_large(const char *what)
@@ -131,6 +149,8 @@ static void check_largest(void)
     check_large("a run with a client for each operation");
     log_calls_then_returns(&run, &order);
     check_large("512 calls, then their returns");
+    log_one_tick(&run, &order);
+    check_large("512 calls, then their returns, all of one tick");
     log_calls_then_returns_of_slots(&run, &order);
     check_large("512 calls, then their returns, by clients that share slots");
     log_pending_pairs(&run, &order);
@@ -158,6 +178,7 @@ int main(void)
     check_refused_sheets();
     check_refused_logs();
     check_pending_add();
+    check_equal_ticks();
     check_largest();
     return counted();
 }

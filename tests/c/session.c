@@ -259,6 +259,37 @@ static void check_refused_records(void)
     expect_refused(call, 9, YR_REFUSAL_BYTES, 3, "a byte behind the record, and there is no room");
 }
 
+/* A call at the tick of its client's last return. The session holds 3 records. */
+static void check_repeated_tick(void)
+{
+    log_begin(&run);
+    log_record(&run, CALL_REMOVE, 2, 0);
+    log_record(&run, CALL_ADD, 1, 7);
+    log_record(&run, RETURN_ADD, 1, 0);
+    feed_run("an add that has returned, and a remove that has not");
+    room = YR_LOG_MAX;
+
+    for (unsigned client = 1; client <= 3; client++) {
+        uint32_t refusals[] = {0, YR_REFUSAL_TICK_REPEATED, YR_REFUSAL_CALL, YR_REFUSAL_VALUE};
+        size_t start = run.length;
+        log_record(&run, CALL_ADD, client, 7);
+        log_join(&run, 3);
+        expect_refused(run.bytes + start, run.length - start, refusals[client], 3,
+                       "7 is added again at the tick of the return");
+        run.length = start;
+        log_set_n(&run, --run.records);
+    }
+    expect(close_to(YR_SHEET_MAX), YR_REFUSAL_PENDING_REMOVE, 0, "what was held before is held");
+
+    log_record(&run, CALL_REMOVE, 1, 0);
+    log_join(&run, 3);
+    room = log_start(&run, 3);
+    expect_refused(run.bytes + room, 8, YR_REFUSAL_TICK_REPEATED, 3, "client 1, without room");
+    room = YR_LOG_MAX;
+    run.bytes[log_start(&run, 3) + 3] = 4;
+    count(fed_from_run(3), "client 4 calls at that tick");
+}
+
 /* Records for which the buffer has just room, or a byte less. */
 static void check_room(void)
 {
@@ -367,6 +398,8 @@ static void check_whole_logs(void)
     expect_as_log("a run of 64 clients");
     log_calls_then_returns(&run, &order);
     expect_as_log("512 calls, then their returns");
+    log_one_tick(&run, &order);
+    expect_as_log("512 calls, then their returns, all of one tick");
     log_values_of_slot(&run, &order);
     expect_as_log("256 adds, then 256 removes, of values that share a slot");
     log_relay(&run, &order, 170, 170, LAST_TRUE);
@@ -483,6 +516,9 @@ static void check_bytes(void)
     now.buffer[log_start(&run, 2) + 3]++;
     expect_unfit_both("the empty remove returns to another client");
     now.buffer[log_start(&run, 2) + 3]--;
+    now.buffer[log_start(&run, 2) + 7]--;
+    expect_unfit_both("the empty remove is called at the tick of its client's return");
+    now.buffer[log_start(&run, 2) + 7]++;
     expect_answer(sheet_to(YR_SHEET_MAX), 0, SHEET_HEADER + 2 * 2, "the session fits again");
 }
 
@@ -493,6 +529,7 @@ int main(void)
     check_second_run();
     check_no_records();
     check_refused_records();
+    check_repeated_tick();
     check_room();
     check_pending_remove();
     check_pattern();

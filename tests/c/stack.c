@@ -427,6 +427,8 @@ int main(void)
     measure_entry(&replay, &log, &order, 0, 1, "1,024 adds that never return, all listed");
     log_calls_then_returns(&log, &order);
     measure_all(&log, &order, 512, 512, "512 calls, then their returns");
+    log_one_tick(&log, &order);
+    measure_all(&log, &order, 512, 512, "512 calls, then their returns, all of one tick");
     log_simulate(&log, &order, CLIENTS_REUSED);
     measure_all(&log, &order, 512, 512, "8 clients at work");
     log_simulate_by(&log, &order, CLIENTS_REUSED, MOST_WORKERS);

@@ -6,7 +6,7 @@
 pub enum Answer {
     /// The number that the call returns.
     Accepted(u32),
-    /// A refusal of document 01 with the index of the record at fault.
+    /// A refusal of the documents with the index of the record at fault.
     Refused { number: u32, index: u32 },
 }
 
@@ -20,8 +20,8 @@ impl Answer {
     }
 }
 
-/// The numbers of all answers are below this: 30 is the highest of a refusal.
-pub const NUMBERS: usize = 30 + 1;
+/// The numbers of all answers are below this: 31 is the highest of a refusal.
+pub const NUMBERS: usize = 31 + 1;
 
 /// A refusal, in short.
 pub fn refused(number: u32, index: u32) -> Answer {

@@ -121,7 +121,8 @@ module _ {log : List ℕ} {records : List Record} (reads : readLog log ≡ reada
         wrote = record { accepted = rw (answer, room) (omega arith); bytes-are = refl };
       }
 
--- "neighbouring calls, or returns, that trade places leave the verdict as it is": what yr_judge writes for both logs has the same verdict byte.
+-- "neighbouring calls, or returns, that trade places leave the verdict as it is", and since change 3 a call and a return of one tick: what yr_judge
+-- writes for both logs has the same verdict byte.
 pub judge-trade-same : {log log' : List ℕ} → Bytes log → Traded log log' → {sheet sheet' : List ℕ} → JudgeWrote log sheet → JudgeWrote log' sheet'
     → verdictByte sheet ≡ verdictByte sheet'
 judge-trade-same bytes trade before after =

@@ -1,4 +1,4 @@
--- Where two neighbouring records, both calls or both returns, trade places, the histories are alike: an operation goes where its call goes, and its
+-- Where two neighbouring records trade places that may, the histories are alike: an operation goes where its call goes, and its
 -- return goes with it.
 use Prim.Native.Nat.{ℕ, _<_}
 use native.Mathlib.Omega.{arith}
@@ -9,18 +9,17 @@ use mathlib.Core.List.{List}
 use lib.ListN.{length, take}
 use Rattle.record.specs.declared.record.Event.{Event}
 use Rattle.record.specs.declared.record.Record.{Record}
-use Rattle.reader.specs.Log.{isCall, operations, encodeLog}
-use Rattle.reader.specs.Readable.{recordOf, PartialLog, Orderly}
-use Rattle.reader.proofs.Laws.{readable-log, orderly-readable}
+use Rattle.reader.specs.Log.{isCall, operations}
+use Rattle.reader.specs.Readable.{recordOf, Orderly}
 use Rattle.history.specs.History.{Returned, Precedes}
 use Rattle.history.specs.Operations.{callIndex, returnIndex, kindBy, valueBy, historyOf}
-use Rattle.history.proofs.Events.{turns-change}
 use Rattle.history.proofs.Numbering.{Called, call-of, rank-known, index-of-rank, return-within, return-is-next, next-is-return}
-use Rattle.history.proofs.Positions.{position-returned, position-precedes}
+use Rattle.history.proofs.Positions.{position-returned}
+use Rattle.history.proofs.Laws.{return-no-call, precedes-by-ticks}
 use Rattle.violations.specs.Parts.{Alike}
 use Rattle.archive.specs.Trade.{traded, Tradable}
 use Rattle.archive.proofs.Exchange.{exchange, exchange-back, exchange-above}
-use Rattle.archive.proofs.Trade.{Trades, trades-back, sort-keeps, index-there, next-trades, trades-orderly, traded-trades}
+use Rattle.archive.proofs.Trade.{Trades, trades-back, index-there, next-trades, trades-orderly, traded-trades}
 
 -- the index of an operation's return
 abbrev returnOf : List Record → ℕ → ℕ
@@ -77,39 +76,25 @@ module _ {records records' : List Record} {i : ℕ} (t : Trades records records'
       ≡ tell (recordOf records call .event) (recordOf records (returnOf records o) .event)
   told-trades tell = rw (renumbered-return, renumbered-call, t .event call, t .event (returnOf records o))
 
--- orderly records are those of the log that is written from them
-orderly-partial : {records : List Record} → Orderly records → PartialLog (encodeLog records) records
-orderly-partial {records} orderly = readable-log (encodeLog records) records (orderly-readable records orderly) .partial
-
--- a return is no call
-return-no-call : {records : List Record} → Orderly records → (o : ℕ) → o < operations records → returnOf records o < length records → isCall (recordOf records (returnOf records o) .event) ≡ 0
-return-no-call {records} orderly o h l =
-    let follows = orderly .regular .next (callIndex records o) (returnOf records o) (return-is-next records (callIndex records o) l) in
-    omega (arith, call-of records o h .is-call, turns-change (recordOf records (callIndex records o) .event) (recordOf records (returnOf records o) .event) follows)
-
--- an operation precedes another exactly if its return stands before the other's call
-precedes-exactly : {records : List Record} → Orderly records → (o p : ℕ) → o < operations records → p < operations records
-    → Precedes (historyOf records) o p ↔ (returnOf records o < callIndex records p)
-precedes-exactly {records} orderly o p h k =
-    let call = call-of records p k in
-    position-precedes (orderly-partial orderly) (returnOf records o) (callIndex records p) (return-no-call orderly o h) (call .below) (call .is-call)
-
 module _ {records records' : List Record} {i : ℕ} (t : Trades records records' i) (orderly : Orderly records) where
   -- what had returned has returned
   returned-trades : (o : ℕ) → o < operations records → Returned (historyOf records) o → Returned (historyOf records') (renumbered records records' i o)
   returned-trades o h returned =
-      let there : returnOf records o < length records = position-returned (orderly-partial orderly) (returnOf records o) .0 returned in
-      rw (renumbered-return t o h) (position-returned (orderly-partial (trades-orderly t orderly)) (exchange i (returnOf records o)) .1 (index-there t (returnOf records o) there))
+      let there : returnOf records o < length records = position-returned records (returnOf records o) .0 returned in
+      rw (renumbered-return t o h) (position-returned records' (exchange i (returnOf records o)) .1 (index-there t (returnOf records o) there))
 
-  -- what preceded precedes, since a return and a call stay in their order
+  -- what preceded precedes, since a return and a call compare by their ticks as before
   precedes-trades : (o p : ℕ) → o < operations records → p < operations records → Precedes (historyOf records) o p → Precedes (historyOf records') (renumbered records records' i o) (renumbered records records' i p)
   precedes-trades o p h k precedes =
       let call = call-of records p k in
-      let before : returnOf records o < callIndex records p = precedes-exactly orderly o p h k .0 precedes in
-      let return = return-no-call orderly o h (omega (arith, call .below)) in
-      let still = sort-keeps t (returnOf records o) (callIndex records p) before (λ e. omega (arith, return, call .is-call)) in
-      precedes-exactly (trades-orderly t orderly) (renumbered records records' i o) (renumbered records records' i p) (renumbered-known t o h) (renumbered-known t p k) .1
-      (rw (renumbered-return t o h, renumbered-call t p k) still)
+      let before = precedes-by-ticks (orderly .regular) o p h k .0 precedes in
+      let return = return-no-call (orderly .regular) o h (before .returned) in
+      let still = t .ticks (returnOf records o) (callIndex records p) (before .returned) (call .below) return (call .is-call) .0 (before .lower) in
+      precedes-by-ticks (trades-orderly t orderly .regular) (renumbered records records' i o) (renumbered records records' i p) (renumbered-known t o h) (renumbered-known t p k) .1
+      (record {
+        returned = rw (renumbered-return t o h) (index-there t (returnOf records o) (before .returned));
+        lower = rw (renumbered-return t o h, renumbered-call t p k, t .tick (exchange i (returnOf records o)), t .tick (exchange i (callIndex records p))) still;
+      })
 
 -- so the histories are alike: what a trade keeps one way it keeps the other way, since it goes back
 trades-alike : {records records' : List Record} {i : ℕ} → Trades records records' i → Orderly records → Alike (historyOf records) (historyOf records')

@@ -30,13 +30,17 @@ exchange-low (suc i) = omega (arith, exchange-low i)
 pub exchange-high : (i : ℕ) → exchange i (i + 1) ≡ i
 exchange-high i = rw (exchange-low i) at (exchange-back i i)
 
--- a number above both stays
-pub exchange-above : (i n : ℕ) → i + 1 < n → exchange i n ≡ n
+-- another number stays, and so one above both
+pub exchange-other : (i j : ℕ) → (j ≡ i → ⊥) → (j ≡ i + 1 → ⊥) → exchange i j ≡ j
 unfolding exchange
-exchange-above i zero l = absurd (omega arith)
-exchange-above zero (suc zero) l = absurd (omega arith)
-exchange-above zero (suc (suc n)) l = refl
-exchange-above (suc i) (suc n) l = ap suc (exchange-above i n (omega arith))
+exchange-other zero zero n m = absurd (n refl)
+exchange-other zero (suc zero) n m = absurd (m refl)
+exchange-other zero (suc (suc j)) n m = refl
+exchange-other (suc i) zero n m = refl
+exchange-other (suc i) (suc j) n m = ap suc (exchange-other i j (λ e. n (omega arith)) (λ e. m (omega arith)))
+
+pub exchange-above : (i n : ℕ) → i + 1 < n → exchange i n ≡ n
+exchange-above i n l = exchange-other i n (λ e. omega arith) (λ e. omega arith)
 
 -- two numbers stay in their order, unless they are the two
 pub exchange-keeps : (i a b : ℕ) → a < b → (a ≡ i → b ≡ i + 1 → ⊥) → exchange i a < exchange i b

@@ -1,6 +1,6 @@
 -- Demand 3, at the level of bytes, for every readable log: the archive holds a legal order of the log exactly when one exists, and otherwise the
--- pattern with the operations that document 01 picks; the excerpt, judged by itself, gives the same number; neighbouring calls, or returns, that
--- trade places leave the verdict as it is.
+-- pattern with the operations that document 01 picks; the excerpt, judged by itself, gives the same number; neighbouring records that trade places, if
+-- change 3 lets them, leave the verdict as it is.
 use Prim.Native.Nat.{ℕ}
 use mathlib.Core.Path.{_≡_, sym, ap, _∙_}
 use mathlib.Core.Logic.{_↔_}
@@ -75,8 +75,10 @@ module _ {log : List ℕ} {records : List Record} (reads : readLog log ≡ reada
     pub excerpt-same : {sheet' excerpt' : List ℕ} → Archive excerpt sheet' excerpt' → verdictByte sheet' ≡ verdictByte sheet
     excerpt-same {sheet'} again = excerpt-verdict log records reads bytes (pattern-is-first pattern) .1 (verdictByte sheet') (listedOn sheet') (verdict-is excerpt-readable again .0)
 
--- "neighbouring calls, or returns, that trade places leave the verdict as it is": whichever two neighbouring records, both calls or both returns, trade
--- places while each place keeps its tick, the traded log is readable, and the verdict byte is the same.
+-- "neighbouring calls, or returns, that trade places leave the verdict as it is", as change 3 has it: "Two neighbours of one tick and different clients
+-- may now trade places, a call with a return included. Two calls of different ticks may trade only if no return has either tick, and two returns only
+-- if no call has; both logs must be readable." Whichever two of these trade places while each place keeps its tick, the traded log is readable if the
+-- other is, and the verdict byte is the same.
 module _ {log log' : List ℕ} (bytes : Bytes log) (trade : Traded log log') where
   -- no other byte changes
   pub trade-bytes : TradedBytes log log'

@@ -4,5 +4,6 @@ pub mod Exchange
 pub mod Existing
 pub mod Laws
 pub mod Only
+pub mod Ticks
 pub mod Trade
 pub mod Traded

@@ -1,6 +1,6 @@
--- Records of which two neighbours, both calls or both returns, trade places. They are of different clients, so the records of each client stay in
--- their order, and orderly records stay orderly.
-use Prim.Native.Nat.{ℕ, zero, suc, _+_, _<_}
+-- Records of which two neighbours trade places that may. They are of different clients, so the records of each client stay in their order, and returns
+-- compare with calls by their ticks as before. So orderly records stay orderly.
+use Prim.Native.Nat.{ℕ, zero, suc, _+_, _≤_, _<_}
 use native.Mathlib.Omega.{arith}
 use native.Mathlib.Decide.{decLt}
 use mathlib.Core.Path.{_≡_, refl, sym, ap, _∙_}
@@ -9,49 +9,48 @@ use lib.ListN.{length}
 use Rattle.record.specs.Record.{valueIn}
 use Rattle.record.specs.declared.record.Event.the-variants.{CallAdd}
 use Rattle.record.specs.declared.record.Record.{Record}
-use Rattle.reader.specs.Log.{isCall}
-use Rattle.reader.specs.Readable.{recordOf, asks, leaves, Next, Orderly}
-use Rattle.history.proofs.Events.{turns-change}
-use Rattle.archive.specs.Trade.{withTick, traded, Tradable}
+use Rattle.reader.specs.Log.{isCall, leaves}
+use Rattle.reader.specs.Readable.{recordOf, asks, Next, Orderly}
+use Rattle.reader.proofs.Events.{turns-change}
+use Rattle.archive.specs.Trade.{withTick, traded, MayTrade, one-tick, two-calls, two-returns, Tradable}
 use Rattle.archive.proofs.Exchange.{exchange, exchange-low, exchange-high, exchange-back, exchange-keeps, exchange-below}
+use Rattle.archive.proofs.Ticks.{TicksAlike, tick-trades}
 
--- What is used of such a trade: the records at an index and the next one, both calls or both returns and of different clients, take each other's
--- place, and each place keeps its tick.
+-- What is used of such a trade: the records at an index and the next one, of different clients, take each other's place, each place keeps its tick,
+-- and a return has a lower tick than a call exactly if it has in their new places.
 pub record Trades (records records' : List Record) (i : ℕ) : Type 0 where
   pub there : i + 1 < length records
-  pub both : isCall (recordOf records i .event) ≡ isCall (recordOf records (i + 1) .event)
   pub apart : recordOf records i .client ≡ recordOf records (i + 1) .client → ⊥
   pub long : length records' ≡ length records
   pub tick : (j : ℕ) → recordOf records' j .tick ≡ recordOf records j .tick
   pub client : (j : ℕ) → recordOf records' (exchange i j) .client ≡ recordOf records j .client
   pub event : (j : ℕ) → recordOf records' (exchange i j) .event ≡ recordOf records j .event
+  pub ticks : TicksAlike records i
 
 -- the trade goes back
 pub trades-back : {records records' : List Record} {i : ℕ} → Trades records records' i → Trades records' records i
 trades-back {records} {records'} {i} t = record {
   there = omega (arith, t .there, t .long);
-  both = ap isCall low ∙ sym (t .both) ∙ sym (ap isCall high);
   apart = λ e. t .apart (rw (exchange-low i) at (sym (t .client i)) ∙ sym e ∙ rw (exchange-high i) at (t .client (i + 1)));
   long = sym (t .long);
   tick = λ j. sym (t .tick j);
   client = λ j. rw (exchange-back i j) at (sym (t .client (exchange i j)));
-  event = λ j. rw (exchange-back i j) at (sym (t .event (exchange i j)));
+  event = event;
+  ticks = λ a b h k c d.
+      let (there, back) = t .ticks (exchange i a) (exchange i b) (below a h) (below b k) (ap isCall (event a) ∙ c) (ap isCall (event b) ∙ d) in
+      rw (t .tick a, t .tick b, t .tick (exchange i a), t .tick (exchange i b)) (rw (exchange-back i a, exchange-back i b) at back, rw (exchange-back i a, exchange-back i b) at there);
 }
   where
-    low : recordOf records' i .event ≡ recordOf records (i + 1) .event
-    low = rw (exchange-high i) at (t .event (i + 1))
+    event : (j : ℕ) → recordOf records (exchange i j) .event ≡ recordOf records' j .event
+    event j = rw (exchange-back i j) at (sym (t .event (exchange i j)))
 
-    high : recordOf records' (i + 1) .event ≡ recordOf records i .event
-    high = rw (exchange-low i) at (t .event i)
+    below : (j : ℕ) → j < length records' → exchange i j < length records
+    below j h = exchange-below i j (length records) (t .there) (omega (arith, t .long))
 
 module _ {records records' : List Record} {i : ℕ} (t : Trades records records' i) where
   -- the records of a client stay in their order
   client-keeps : (a b : ℕ) → a < b → recordOf records a .client ≡ recordOf records b .client → exchange i a < exchange i b
   client-keeps a b l e = exchange-keeps i a b l (λ p q. t .apart (rw (p, q) at e))
-
-  -- and so do a call and a return
-  pub sort-keeps : (a b : ℕ) → a < b → (isCall (recordOf records a .event) ≡ isCall (recordOf records b .event) → ⊥) → exchange i a < exchange i b
-  sort-keeps a b l n = exchange-keeps i a b l (λ p q. n (rw (p, q) (t .both)))
 
   -- every record has a new place
   pub index-there : (j : ℕ) → j < length records → exchange i j < length records'
@@ -78,6 +77,7 @@ trades-orderly {records} {records'} {i} t orderly = record {
     first = λ j h alone. sym (ap asks (back .event j)) ∙ orderly .regular .first (exchange i j) (index-there back j h)
         (λ k l e. alone (exchange i k) (rw (exchange-back i j) at (client-keeps t k (exchange i j) l e)) (t .client k ∙ e ∙ back .client j));
     next = λ a b next. sym (ap asks (back .event b)) ∙ orderly .regular .next (exchange i a) (exchange i b) (next-trades back next) ∙ ap leaves (back .event a);
+    rises = rises;
     once = λ a b v l h p q. once a b v l h (back .event a ∙ p) (back .event b ∙ q) (decLt (exchange i a) (exchange i b)) (decLt (exchange i b) (exchange i a));
   };
   small = λ j h. record {
@@ -90,6 +90,14 @@ trades-orderly {records} {records'} {i} t orderly = record {
   where
     back : Trades records' records i
     back = trades-back t
+
+    rises : (a b : ℕ) → Next records' a b → isCall (recordOf records' b .event) ≡ 1 → recordOf records' a .tick < recordOf records' b .tick
+    rises a b next call =
+        let was : Next records (exchange i a) (exchange i b) = next-trades back next in
+        let turns = turns-change (recordOf records (exchange i a) .event) (recordOf records (exchange i b) .event) (orderly .regular .next (exchange i a) (exchange i b) was) in
+        let return : isCall (recordOf records' a .event) ≡ 0 = omega (arith, turns, ap isCall (back .event a), ap isCall (back .event b)) in
+        back .ticks a b (omega (arith, next .later, next .there)) (next .there) return call .1
+        (rw (t .tick (exchange i a), t .tick (exchange i b)) (orderly .regular .rises (exchange i a) (exchange i b) was (ap isCall (back .event b) ∙ call)))
 
     once : (a b v : ℕ) → a < b → b < length records' → recordOf records (exchange i a) .event ≡ CallAdd v → recordOf records (exchange i b) .event ≡ CallAdd v
         → Dec (exchange i a < exchange i b) → Dec (exchange i b < exchange i a) → ⊥
@@ -118,23 +126,29 @@ traded-length i (r ∷ []) = refl
 traded-length zero (r ∷ s ∷ records) = refl
 traded-length (suc i) (r ∷ s ∷ records) = ap suc (traded-length i (s ∷ records))
 
--- two neighbouring calls or returns are of different clients, since a client's calls and returns take turns
+-- the two are of different clients: of one tick they are so said, and a client's calls and returns take turns
 neighbours-apart : {records : List Record} {i : ℕ} → Orderly records → Tradable records i → recordOf records i .client ≡ recordOf records (i + 1) .client → ⊥
-neighbours-apart {records} {i} orderly tradable e = omega (arith, tradable .both, turns-change (recordOf records i .event) (recordOf records (i + 1) .event) (orderly .regular .next i (i + 1) next))
+neighbours-apart {records} {i} orderly tradable e = go (tradable .may)
   where
-    next : Next records i (i + 1)
-    next = record { later = omega arith; there = tradable .there; same = sym e; between = λ k l m. absurd (omega arith) }
+    turns : isCall (recordOf records i .event) + isCall (recordOf records (i + 1) .event) ≡ 1
+    turns = turns-change (recordOf records i .event) (recordOf records (i + 1) .event)
+        (orderly .regular .next i (i + 1) (record { later = omega arith; there = tradable .there; same = sym e; between = λ k l m. absurd (omega arith) }))
+
+    go : MayTrade records i → ⊥
+    go (one-tick t other) = other e
+    go (two-calls c d none) = omega (arith, turns)
+    go (two-returns c d none) = omega (arith, turns)
 
 -- so `traded` makes such a trade
 pub traded-trades : {records : List Record} {i : ℕ} → Orderly records → Tradable records i → Trades records (traded i records) i
 traded-trades {records} {i} orderly tradable = record {
   there = tradable .there;
-  both = tradable .both;
   apart = neighbours-apart orderly tradable;
   long = traded-length i records;
   tick = λ j. ap (λ r. r .tick) (at j);
   client = λ j. ap (λ r. r .client) (at (exchange i j)) ∙ ap (λ k. recordOf records k .client) (exchange-back i j);
   event = λ j. ap (λ r. r .event) (at (exchange i j)) ∙ ap (λ k. recordOf records k .event) (exchange-back i j);
+  ticks = tick-trades i (orderly .regular) (tradable .there) (tradable .may);
 }
   where
     at : (j : ℕ) → recordOf (traded i records) j ≡ withTick (recordOf records j .tick) (recordOf records (exchange i j))

@@ -1,4 +1,4 @@
--- The laws of a log in which two neighbouring records, both calls or both returns, have traded places: it is readable, and judged it has the verdict
+-- The laws of a log in which two neighbouring records have traded places that may: it is readable, and judged it has the verdict
 -- byte of the log that it was made from.
 use Prim.Native.Nat.{ℕ, zero, suc, _+_, _<_}
 use native.Mathlib.Omega.{arith}

@@ -10,9 +10,10 @@ use borrow.Author.Tests.{lt-ltb, le-ltb}
 use Rattle.record.specs.declared.record.Event.the-variants.{CallRemove}
 use Rattle.record.specs.declared.record.Record.{Record}
 use Rattle.map.proofs.Laws.{newKeys, newChains}
-use Rattle.reader.specs.Log.{isCall, operations}
-use Rattle.reader.specs.Readable.{recordOf, asks, leaves, Regular}
-use Rattle.history.specs.Operations.{callIndex, returnIndex, kindBy, valueBy, positionOf, returnPosition, operationAt}
+use Rattle.reader.specs.Log.{isCall, leaves, operations}
+use Rattle.reader.specs.Readable.{recordOf, asks, Regular}
+use Rattle.history.specs.Positions.{positionOf, returnPosition}
+use Rattle.history.specs.Operations.{callIndex, returnIndex, kindBy, valueBy, operationAt}
 use Rattle.history.specs.Owners.{Traced}
 use Rattle.history.specs.Table.{tableLength, Entered, Told, Filled, HistoryHeld}
 use Rattle.history.proofs.Numbering.{index-of-rank, rank-step, ranks-rise, ranks-below, next-is-return}
@@ -60,7 +61,7 @@ module _ {records : List Record} (regular : Regular records) {n : ℕ} (h : n < 
     before p l r (yes b) = b
     before p l r (no b) = absurd (not-now p l (omega arith))
 
-    pub filled-call : {table' : List ℕ} → Entered table o (kindBy (recordOf records n .event) CallRemove) (valueBy (recordOf records n .event) CallRemove) n (length records) table' → Filled records old (n + 1) count' callers' chains' table'
+    pub filled-call : {table' : List ℕ} → Entered table o (kindBy (recordOf records n .event) CallRemove) (valueBy (recordOf records n .event) CallRemove) (positionOf records n) (length records) table' → Filled records old (n + 1) count' callers' chains' table'
     filled-call {table'} entered = record {
       traced = traced;
       table-sized = entered .sized ∙ filled .table-sized;
@@ -70,7 +71,7 @@ module _ {records : List Record} (regular : Regular records) {n : ℕ} (h : n < 
     }
       where
         back : (p : ℕ) → p < count' → returnIndex records (callIndex records p) < n + 1 → Dec (p ≡ o)
-            → Told records table' p (recordOf records (returnIndex records (callIndex records p)) .event) (returnIndex records (callIndex records p))
+            → Told records table' p (recordOf records (returnIndex records (callIndex records p)) .event) (positionOf records (returnIndex records (callIndex records p)))
         back p l r (yes e) = absurd (omega (arith, ap (callIndex records) e, own))
         back p l r (no d) = let below : p < count = omega (arith, more, new) in entry-stays entered d (filled .returned p below (before p below r (decLt (returnIndex records (callIndex records p)) n)))
 
@@ -91,7 +92,7 @@ module _ {records : List Record} (regular : Regular records) {n : ℕ} (h : n < 
           asked = rw own (sym (regular .next i n next));
         }
 
-    pub filled-return : {table' : List ℕ} → Entered table o (kindBy (recordOf records (callIndex records o) .event) (recordOf records n .event)) (valueBy (recordOf records (callIndex records o) .event) (recordOf records n .event)) (callIndex records o) n table'
+    pub filled-return : {table' : List ℕ} → Entered table o (kindBy (recordOf records (callIndex records o) .event) (recordOf records n .event)) (valueBy (recordOf records (callIndex records o) .event) (recordOf records n .event)) (positionOf records (callIndex records o)) (positionOf records n) table'
         → Filled records old (n + 1) count' callers' chains' table'
     filled-return {table'} entered = record {
       traced = traced;
@@ -102,7 +103,7 @@ module _ {records : List Record} (regular : Regular records) {n : ℕ} (h : n < 
     }
       where
         back : (p : ℕ) → p < count → returnIndex records (callIndex records p) < n + 1 → Dec (p ≡ o) → Dec (returnIndex records (callIndex records p) < n)
-            → Told records table' p (recordOf records (returnIndex records (callIndex records p)) .event) (returnIndex records (callIndex records p))
+            → Told records table' p (recordOf records (returnIndex records (callIndex records p)) .event) (positionOf records (returnIndex records (callIndex records p)))
         back p l r (yes e) d = rw (e, return-ends .returns) (entered .entry)
         back p l r (no d) (yes b) = entry-stays entered d (filled .returned p l b)
         back p l r (no d) (no b) = absurd (d (alone p l (omega arith)))
@@ -114,7 +115,6 @@ module _ {records : List Record} (regular : Regular records) {n : ℕ} (h : n < 
 -- behind the last record the table holds the history
 pub filled-all : {records : List Record} {count : ℕ} {old callers chains table : List ℕ} → Filled records old (length records) count callers chains table
     → HistoryHeld records old table
-unfolding positionOf
 filled-all {records} {count} {old} {callers} {chains} {table} filled = record {
   sized = filled .table-sized;
   agree = record {

@@ -3,6 +3,7 @@ use Prim.Native.Nat.{ℕ, _≤_, _<_}
 use native.Mathlib.Omega.{arith}
 use native.Mathlib.Decide.{decLt}
 use mathlib.Core.Path.{_≡_, refl, sym, ap, _∙_}
+use mathlib.Core.Logic.{_↔_}
 use mathlib.Core.List.{List}
 use lib.ListN.{length, List·getD-eq-default}
 use borrow.Author.Tests.{lt-ltb, le-ltb}
@@ -13,14 +14,42 @@ use Rattle.record.specs.declared.record.Removed.the-variants.{Value, Empty}
 use Rattle.record.specs.declared.record.Event.{Event}
 use Rattle.record.specs.declared.record.Event.the-variants.{CallAdd, CallRemove, ReturnAdd, ReturnRemove}
 use Rattle.record.specs.declared.record.Record.{Record}
-use Rattle.reader.specs.Log.{isCall, operations}
-use Rattle.reader.specs.Readable.{recordOf, asks, leaves, ReadableLog}
+use Rattle.reader.specs.Log.{isCall, leaves, operations}
+use Rattle.reader.specs.Readable.{recordOf, Regular, ReadableLog}
 use Rattle.reader.proofs.Laws.{readable-orderly}
-use Rattle.history.specs.History.{add, emptyRemove, Returned, Lawful, RemovesReturned}
-use Rattle.history.specs.Operations.{callIndex, returnIndex, valueBy, positionOf, historyOf}
+use Rattle.history.specs.History.{add, emptyRemove, Returned, Precedes, Lawful, RemovesReturned}
+use Rattle.history.specs.Positions.{positionOf}
+use Rattle.history.specs.Operations.{callIndex, returnIndex, valueBy, historyOf, PrecedesByTicks}
 use Rattle.history.proofs.Numbering.{Called, call-of, same-call, calls-rise, return-is-next, next-is-return, next-of-one}
-use Rattle.history.proofs.Events.{asks-call, leaves-call, asks-remove}
-use Rattle.history.proofs.Positions.{position-within, position-apart, position-next, position-calls, position-returned}
+use Rattle.reader.proofs.Events.{asks-remove, turns-change}
+use Rattle.history.proofs.Positions.{position-within, position-apart, position-next, position-calls, position-returned, position-precedes}
+
+-- a return is no call
+pub return-no-call : {records : List Record} → Regular records → (o : ℕ) → o < operations records → returnIndex records (callIndex records o) < length records
+    → isCall (recordOf records (returnIndex records (callIndex records o)) .event) ≡ 0
+return-no-call {records} regular o h l =
+    let follows = regular .next (callIndex records o) (returnIndex records (callIndex records o)) (return-is-next records (callIndex records o) l) in
+    omega (arith, call-of records o h .is-call, turns-change (recordOf records (callIndex records o) .event) (recordOf records (returnIndex records (callIndex records o)) .event) follows)
+
+-- Document 02, change 3: "an operation precedes another exactly if its return's tick is lower than the other's call's tick". Precedence by positions,
+-- on which everything above rests, is that.
+pub precedes-by-ticks : {records : List Record} → Regular records → (o p : ℕ) → o < operations records → p < operations records
+    → Precedes (historyOf records) o p ↔ PrecedesByTicks records o p
+precedes-by-ticks {records} regular o p h k = go (decLt return (length records))
+  where
+    return : ℕ
+    return = returnIndex records (callIndex records o)
+
+    call : Called records p
+    call = call-of records p k
+
+    go : Dec (return < length records) → Precedes (historyOf records) o p ↔ PrecedesByTicks records o p
+    go (yes l) =
+        let exactly = position-precedes regular return (callIndex records p) l (call .below) (return-no-call regular o h l) (call .is-call) in
+        rw (lt-ltb _ _ l) (λ b. record { returned = l; lower = exactly .0 b }, λ t. exactly .1 (t .lower))
+    go (no l) =
+        let past : length records ≤ return = omega arith in
+        rw (le-ltb _ _ past) (λ b. absurd (omega (arith, position-within records (callIndex records p) (call .below))), λ t. absurd (l (t .returned)))
 
 module _ {log : List ℕ} {records : List Record} (readable : ReadableLog log records) where
   -- the call and the return of an operation
@@ -70,14 +99,14 @@ module _ {log : List ℕ} {records : List Record} (readable : ReadableLog log re
   spans o h = go (decLt (returnOf o) (length records))
     where
       go : Dec (returnOf o < length records) → historyOf records .call o < historyOf records .ret o
-      go (yes l) = rw (returned-at o l) (position-next (readable .partial) (callOf o) (returnOf o) (return-is-next records (callOf o) l))
-      go (no l) = rw (never-returned o (omega arith)) (position-within (readable .partial) (callOf o) (call-of records o h .below))
+      go (yes l) = rw (returned-at o l) (position-next (readable .partial .regular) (callOf o) (returnOf o) (return-is-next records (callOf o) l))
+      go (no l) = rw (never-returned o (omega arith)) (position-within records (callOf o) (call-of records o h .below))
 
   ends : (o : ℕ) → historyOf records .ret o ≤ length records
   ends o = go (decLt (returnOf o) (length records))
     where
       go : Dec (returnOf o < length records) → historyOf records .ret o ≤ length records
-      go (yes l) = rw (returned-at o l) (omega (arith, position-within (readable .partial) (returnOf o) l))
+      go (yes l) = rw (returned-at o l) (omega (arith, position-within records (returnOf o) l))
       go (no l) = rw (never-returned o (omega arith)) (omega arith)
 
   returned : (o : ℕ) → o < operations records → (historyOf records .kind o ≡ add → ⊥) → Returned (historyOf records) o
@@ -85,22 +114,16 @@ module _ {log : List ℕ} {records : List Record} (readable : ReadableLog log re
     where
       go : Shape o → Returned (historyOf records) o
       go (adds v e) = absurd (n (rw e refl))
-      go (removes x e l r) = rw (returned-at o l) (position-within (readable .partial) (returnOf o) l)
-
-  -- a return is no call
-  other : (o p : ℕ) → o < operations records → p < operations records → returnOf o < length records → returnOf o ≡ callOf p → ⊥
-  other o p h k l e =
-      leaves-call (recordOf records (callOf o) .event) (call-of records o h .is-call)
-      (sym (readable .partial .regular .next (callOf o) (returnOf o) (return-is-next records (callOf o) l))
-      ∙ ap (λ i. asks (recordOf records i .event)) e
-      ∙ asks-call (recordOf records (callOf p) .event) (call-of records p k .is-call))
+      go (removes x e l r) = rw (returned-at o l) (position-within records (returnOf o) l)
 
   apart : (o p : ℕ) → o < operations records → p < operations records → historyOf records .ret o ≡ historyOf records .call p → ⊥
   apart o p h k e = go (decLt (returnOf o) (length records))
     where
       go : Dec (returnOf o < length records) → ⊥
-      go (yes l) = other o p h k l (position-apart (readable .partial) (returnOf o) (callOf p) l (call-of records p k .below) (sym (returned-at o l) ∙ e))
-      go (no l) = omega (arith, never-returned o (omega arith), position-within (readable .partial) (callOf p) (call-of records p k .below))
+      go (yes l) =
+          let same = position-apart (readable .partial .regular) (returnOf o) (callOf p) l (call-of records p k .below) (sym (returned-at o l) ∙ e) in
+          omega (arith, return-no-call (readable .partial .regular) o h l, call-of records p k .is-call, ap (λ i. isCall (recordOf records i .event)) same)
+      go (no l) = omega (arith, never-returned o (omega arith), position-within records (callOf p) (call-of records p k .below))
 
   -- one value, one call, one operation
   add-call : (o : ℕ) → o < operations records → historyOf records .kind o ≡ add → recordOf records (callOf o) .event ≡ CallAdd (historyOf records .value o)
@@ -129,9 +152,9 @@ module _ {log : List ℕ} {records : List Record} (readable : ReadableLog log re
   -- two that have returned and return at one position are one
   pub returns-apart : (o p : ℕ) → o < operations records → p < operations records → Returned (historyOf records) o → historyOf records .ret o ≡ historyOf records .ret p → o ≡ p
   returns-apart o p h k back e =
-      let at-o : returnOf o < length records = position-returned (readable .partial) (returnOf o) .0 back in
-      let at-p : returnOf p < length records = position-returned (readable .partial) (returnOf p) .0 (rw (← e) back) in
-      let same : returnOf o ≡ returnOf p = position-apart (readable .partial) (returnOf o) (returnOf p) at-o at-p (sym (returned-at o at-o) ∙ e ∙ returned-at p at-p) in
+      let at-o : returnOf o < length records = position-returned records (returnOf o) .0 back in
+      let at-p : returnOf p < length records = position-returned records (returnOf p) .0 (rw (← e) back) in
+      let same : returnOf o ≡ returnOf p = position-apart (readable .partial .regular) (returnOf o) (returnOf p) at-o at-p (sym (returned-at o at-o) ∙ e ∙ returned-at p at-p) in
       same-call records o p h k (next-of-one records (callOf o) (callOf p) (returnOf p) (rw (← same) (return-is-next records (callOf o) at-o)) (return-is-next records (callOf p) at-p))
 
 -- no remove is pending, since the reader refuses a log with one
@@ -147,7 +170,7 @@ history-lawful {records = records} readable = record {
   returned = λ o h l. returned readable o h (λ e. omega arith);
   unreturned = λ o h e back. omega (arith, kinds readable o h);
   apart = apart readable;
-  numbered = λ o p l h. position-calls (readable .partial) (callIndex records o) (callIndex records p) (calls-rise records o p l h) (call-of records p h .below) (call-of records o (omega arith) .is-call) (call-of records p h .is-call);
+  numbered = λ o p l h. position-calls (readable .partial .regular) (callIndex records o) (callIndex records p) (calls-rise records o p l h) (call-of records p h .below) (call-of records o (omega arith) .is-call) (call-of records p h .is-call);
   once = once readable;
 }
 

@@ -1,16 +1,18 @@
 pub mod Agreeing
 pub mod Along
 pub mod Basics
+pub mod Batching
 pub mod Counting
 pub mod Deciding
 pub mod Entries
-pub mod Events
 pub mod Filling
 pub mod Forms
 pub mod Laws
+pub mod Looking
 pub mod Noting
 pub mod Numbering
 pub mod Owning
+pub mod Placing
 pub mod Positions
 pub mod Queues
 pub mod Reaching
@@ -19,6 +21,7 @@ pub mod Rows
 pub mod Running
 pub mod Sheets
 pub mod Tabulating
+pub mod Tallies
 pub mod Tracing
 pub mod Walking
 pub mod Writing

@@ -9,9 +9,10 @@ use Rattle.record.specs.declared.record.Removed.{Removed}
 use Rattle.record.specs.declared.record.Event.{Event}
 use Rattle.record.specs.declared.record.Event.the-variants.{CallAdd, CallRemove, ReturnAdd, ReturnRemove}
 use Rattle.record.specs.declared.record.Record.{Record}
-use Rattle.reader.specs.Log.{isCall}
-use Rattle.reader.specs.Readable.{recordOf, asks, leaves, Regular}
+use Rattle.reader.specs.Log.{isCall, leaves}
+use Rattle.reader.specs.Readable.{recordOf, asks, Regular}
 use Rattle.history.specs.History.{add}
+use Rattle.history.specs.Positions.{positionOf}
 use Rattle.history.specs.Operations.{callIndex, removeKind, kindBy, valueBy}
 use Rattle.history.specs.Owners.{Owned}
 use Rattle.history.specs.declared.owners.Owner.{Owner}
@@ -19,19 +20,19 @@ use Rattle.history.specs.Table.{valueAt, callAt, Entered, Filled, Noted}
 use Rattle.history.proofs.Filling.{filled-call, Ends, return-ends, filled-return}
 
 -- a record that is a call is noted
-pub noted-call : {r : Record} {index count end : ℕ} {callers chains table callers' chains' table' : List ℕ} {owner : Owner} {e : Event}
+pub noted-call : {r : Record} {at count end : ℕ} {callers chains table callers' chains' table' : List ℕ} {owner : Owner} {e : Event}
     → Owned r count callers chains owner callers' chains' → r .event ≡ e → isCall e ≡ 1
-    → Entered table (owner .operation) (kindBy e CallRemove) (valueBy e CallRemove) index end table'
-    → Noted r index count end callers chains table (owner .count) callers' chains' table'
-noted-call {r} {index} {count} {end} {callers} {chains} {table} {callers'} {chains'} {table'} {owner} {e} owned is c entered = record { kept = kept }
+    → Entered table (owner .operation) (kindBy e CallRemove) (valueBy e CallRemove) at end table'
+    → Noted r at count end callers chains table (owner .count) callers' chains' table'
+noted-call {r} {at} {count} {end} {callers} {chains} {table} {callers'} {chains'} {table'} {owner} {e} owned is c entered = record { kept = kept }
   where
-    kept : (records : List Record) (old : List ℕ) → Regular records → length records ≡ end → index < end → recordOf records index ≡ r
-        → Filled records old index count callers chains table → Filled records old (index + 1) (owner .count) callers' chains' table'
-    kept records old regular whole below here filled =
-        let h : index < length records = omega arith in
-        let event : recordOf records index .event ≡ e = ap (λ q. q .event) here ∙ is in
-        filled-call regular h filled (owned .traced records index regular h here (filled .traced)) (owned .is records index regular h here (filled .traced))
-        (ap isCall event ∙ c) (rw (event, whole) entered)
+    kept : (records : List Record) (old : List ℕ) (n : ℕ) → Regular records → length records ≡ end → n < end → recordOf records n ≡ r → positionOf records n ≡ at
+        → Filled records old n count callers chains table → Filled records old (n + 1) (owner .count) callers' chains' table'
+    kept records old n regular whole below here placed filled =
+        let h : n < length records = omega arith in
+        let event : recordOf records n .event ≡ e = ap (λ q. q .event) here ∙ is in
+        filled-call regular h filled (owned .traced records n regular h here (filled .traced)) (owned .is records n regular h here (filled .traced))
+        (ap isCall event ∙ c) (rw (event, placed, whole) entered)
 
 -- What a return tells fits the call that it ends: the kind and the value that are entered are those of the operation, whose call had entered this value.
 abbrev Fits : ℕ → Event → ℕ → ℕ → Type 0
@@ -51,20 +52,20 @@ remove-fits entered x kind value k v ReturnAdd l e = absurd (omega arith)
 remove-fits entered x kind value k v (ReturnRemove y) l e = absurd (omega arith)
 
 -- a record that is a return is noted
-pub noted-return : {r : Record} {index count end : ℕ} {callers chains table callers' chains' table' : List ℕ} {owner : Owner} {e : Event} {kind value call : ℕ}
+pub noted-return : {r : Record} {at count end : ℕ} {callers chains table callers' chains' table' : List ℕ} {owner : Owner} {e : Event} {kind value call : ℕ}
     → Owned r count callers chains owner callers' chains' → r .event ≡ e → isCall e ≡ 0 → Fits (valueAt table (owner .operation)) e kind value
-    → call ≡ callAt table (owner .operation) → Entered table (owner .operation) kind value call index table'
-    → Noted r index count end callers chains table (owner .count) callers' chains' table'
-noted-return {r} {index} {count} {end} {callers} {chains} {table} {callers'} {chains'} {table'} {owner} {e} owned is c fits called entered = record { kept = kept }
+    → call ≡ callAt table (owner .operation) → Entered table (owner .operation) kind value call at table'
+    → Noted r at count end callers chains table (owner .count) callers' chains' table'
+noted-return {r} {at} {count} {end} {callers} {chains} {table} {callers'} {chains'} {table'} {owner} {e} owned is c fits called entered = record { kept = kept }
   where
-    kept : (records : List Record) (old : List ℕ) → Regular records → length records ≡ end → index < end → recordOf records index ≡ r
-        → Filled records old index count callers chains table → Filled records old (index + 1) (owner .count) callers' chains' table'
-    kept records old regular whole below here filled =
-        let h : index < length records = omega arith in
-        let event : recordOf records index .event ≡ e = ap (λ q. q .event) here ∙ is in
-        let traced = owned .traced records index regular h here (filled .traced) in
-        let own = owned .is records index regular h here (filled .traced) in
-        let ends : Ends records index count (owner .operation) = return-ends regular h filled traced own (ap isCall event ∙ c) in
+    kept : (records : List Record) (old : List ℕ) (n : ℕ) → Regular records → length records ≡ end → n < end → recordOf records n ≡ r → positionOf records n ≡ at
+        → Filled records old n count callers chains table → Filled records old (n + 1) (owner .count) callers' chains' table'
+    kept records old n regular whole below here placed filled =
+        let h : n < length records = omega arith in
+        let event : recordOf records n .event ≡ e = ap (λ q. q .event) here ∙ is in
+        let traced = owned .traced records n regular h here (filled .traced) in
+        let own = owned .is records n regular h here (filled .traced) in
+        let ends : Ends records n count (owner .operation) = return-ends regular h filled traced own (ap isCall event ∙ c) in
         let was = filled .pending (owner .operation) (ends .below) (omega (arith, ends .returns)) in
         let told = fits (recordOf records (callIndex records (owner .operation)) .event) (ends .asked ∙ ap asks event) (was .value-is) in
-        filled-return regular h filled traced own (ap isCall event ∙ c) (rw (event, ← told .0, ← told .1, ← was .call-is, ← called) entered)
+        filled-return regular h filled traced own (ap isCall event ∙ c) (rw (event, ← told .0, ← told .1, ← was .call-is, ← called, placed) entered)

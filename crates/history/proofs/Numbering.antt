@@ -18,7 +18,7 @@ use Rattle.reader.specs.Log.{isCall, operations}
 use Rattle.reader.specs.Readable.{recordOf, Next}
 use Rattle.reader.proofs.Laws.{operations-join}
 use Rattle.history.specs.Operations.{callIndex, firstOf, returnIndex}
-use Rattle.history.proofs.Events.{isCall-small}
+use Rattle.reader.proofs.Events.{isCall-small}
 
 index-here : (r : Record) (records : List Record) (o : ℕ) → o < isCall (r .event) → callIndex (r ∷ records) o ≡ 0
 unfolding callIndex

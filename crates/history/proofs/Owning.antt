@@ -12,7 +12,7 @@ use Rattle.reader.specs.Readable.{recordOf, asks, Next, Regular}
 use Rattle.reader.proofs.Laws.{called}
 use Rattle.history.specs.Operations.{callIndex, returnIndex, latestOf, operationFrom, operationAt}
 use Rattle.history.proofs.Numbering.{Called, call-of, index-of-rank, rank-known, return-is-next, next-is-return}
-use Rattle.history.proofs.Events.{leaves-call, asks-call, call-leaves, return-asks, isCall-small}
+use Rattle.reader.proofs.Events.{leaves-call, asks-call, call-leaves, return-asks, isCall-small}
 
 -- no call of a client
 abbrev NoCallOf : ℕ → Record → Type 0

@@ -1,7 +1,7 @@
--- The laws of positions: all that is known of where the records of a log stand in time.
+-- The laws of positions: all that is known above of where the records of a log stand in time.
 use Prim.Native.Nat.{ℕ, _<_}
 use native.Mathlib.Omega.{arith}
-use native.Mathlib.Decide.{decLt}
+use native.Mathlib.Decide.{decLt, ℕ-discrete}
 use mathlib.Core.Path.{_≡_}
 use mathlib.Core.Logic.{_↔_}
 use mathlib.Core.List.{List}
@@ -9,30 +9,21 @@ use lib.ListN.{length}
 use borrow.Author.Tests.{lt-ltb, le-ltb}
 use Rattle.record.specs.declared.record.Record.{Record}
 use Rattle.reader.specs.Log.{isCall}
-use Rattle.reader.specs.Readable.{recordOf, Next, PartialLog}
-use Rattle.history.specs.Operations.{positionOf, returnPosition}
+use Rattle.reader.specs.Readable.{recordOf, Next, Regular}
+use Rattle.history.specs.Positions.{timeOf, positionOf, returnPosition}
+use Rattle.reader.proofs.Events.{isCall-small}
+use Rattle.history.proofs.Tallies.{rank-order, rank-within}
 
-module _ {log : List ℕ} {records : List Record} (read : PartialLog log records) where
+module _ (records : List Record) where
+  -- records have their positions in the order in which they are taken
+  pub position-order : (i j : ℕ) → i < length records → (positionOf records i < positionOf records j) ↔ (timeOf records i < timeOf records j)
+  unfolding positionOf
+  position-order i j h = rank-order (timeOf records) (length records) i j h
+
   -- they are below the end
   pub position-within : (i : ℕ) → i < length records → positionOf records i < length records
   unfolding positionOf
-  position-within i h = h
-
-  -- no two records share one
-  pub position-apart : (i j : ℕ) → i < length records → j < length records → positionOf records i ≡ positionOf records j → i ≡ j
-  unfolding positionOf
-  position-apart i j h k e = e
-
-  -- a client's records stand one behind the other
-  pub position-next : (i j : ℕ) → Next records i j → positionOf records i < positionOf records j
-  unfolding positionOf
-  position-next i j next = next .later
-
-  -- and so do calls
-  pub position-calls : (i j : ℕ) → i < j → j < length records → isCall (recordOf records i .event) ≡ 1 → isCall (recordOf records j .event) ≡ 1
-      → positionOf records i < positionOf records j
-  unfolding positionOf
-  position-calls i j l h c d = l
+  position-within i h = rank-within (timeOf records) (length records) i h
 
   -- a return stands below the end exactly if there is one
   pub position-returned : (i : ℕ) → (returnPosition records i < length records) ↔ (i < length records)
@@ -42,19 +33,32 @@ module _ {log : List ℕ} {records : List Record} (read : PartialLog log records
       go (yes l) = rw (lt-ltb i (length records) l) (λ b. l, position-within i)
       go (no l) = rw (le-ltb i (length records) (omega arith)) (omega arith)
 
-  -- and before a call exactly if its record does
-  pub position-precedes : (i j : ℕ) → (i < length records → isCall (recordOf records i .event) ≡ 0) → j < length records → isCall (recordOf records j .event) ≡ 1
-      → (returnPosition records i < positionOf records j) ↔ (i < j)
-  unfolding positionOf
-  position-precedes i j r h c = go (decLt i (length records))
-    where
-      go : Dec (i < length records) → (returnPosition records i < j) ↔ (i < j)
-      go (yes l) = rw (lt-ltb i (length records) l) (omega arith)
-      go (no l) = rw (le-ltb i (length records) (omega arith)) (omega arith)
+module _ {records : List Record} (regular : Regular records) where
+  -- no two records share one
+  pub position-apart : (i j : ℕ) → i < length records → j < length records → positionOf records i ≡ positionOf records j → i ≡ j
+  position-apart i j h k e =
+      let not-lower : timeOf records i < timeOf records j → ⊥ = λ l. omega (arith, position-order records i j h .1 l) in
+      let not-higher : timeOf records j < timeOf records i → ⊥ = λ l. omega (arith, position-order records j i k .1 l) in
+      omega (arith, regular .few, isCall-small (recordOf records i .event), isCall-small (recordOf records j .event))
 
--- Two records of one log compare as the same two records of another do, if they stand in the same order there.
-pub position-alike : (records others : List Record) (i j i' j' : ℕ) → i < length records → j < length records → i' < length others → j' < length others
-    → recordOf others i' ≡ recordOf records i → recordOf others j' ≡ recordOf records j → (i < j) ↔ (i' < j')
-    → (positionOf records i < positionOf records j) ↔ (positionOf others i' < positionOf others j')
-unfolding positionOf
-position-alike records others i j i' j' h k h' k' e f order = order
+  -- a client's records stand one behind the other: a call before its return even within a tick, and a return has a lower tick than the next call
+  pub position-next : (i j : ℕ) → Next records i j → positionOf records i < positionOf records j
+  position-next i j next = position-order records i j (omega (arith, next .later, next .there)) .1 (go (ℕ-discrete (isCall (recordOf records j .event)) 1))
+    where
+      go : Dec (isCall (recordOf records j .event) ≡ 1) → timeOf records i < timeOf records j
+      go (yes c) = omega (arith, regular .rises i j next c, isCall-small (recordOf records i .event), next .there, regular .few, next .later)
+      go (no c) =
+          omega (arith, regular .ticks i j (omega (arith, next .later)) (next .there), isCall-small (recordOf records j .event), next .later)
+
+  -- calls stand one behind the other
+  pub position-calls : (i j : ℕ) → i < j → j < length records → isCall (recordOf records i .event) ≡ 1 → isCall (recordOf records j .event) ≡ 1
+      → positionOf records i < positionOf records j
+  position-calls i j l h c d = position-order records i j (omega arith) .1 (omega (arith, c, d, regular .ticks i j (omega arith) h))
+
+  -- a return stands before a call exactly if it has the lower tick
+  pub position-precedes : (i j : ℕ) → i < length records → j < length records → isCall (recordOf records i .event) ≡ 0 → isCall (recordOf records j .event) ≡ 1
+      → (positionOf records i < positionOf records j) ↔ (recordOf records i .tick < recordOf records j .tick)
+  position-precedes i j h k c d = (
+    λ l. omega (arith, c, d, position-order records i j h .0 l, regular .few),
+    λ l. position-order records i j h .1 (omega (arith, c, d, regular .few)),
+  )

@@ -13,54 +13,76 @@ use Rattle.reader.specs.Log.{headerLength, readLog, checked}
 use Rattle.reader.specs.declared.log.Checked.{Checked}
 use Rattle.reader.specs.declared.log.Checked.the-variants.{Readable, Refused}
 use Rattle.reader.proofs.Laws.{checked-readable, checked-refused}
+use Rattle.reader.specs.Readable.{Regular}
+use Rattle.history.specs.Batches.{Batched, Beside, PlaceFound}
+use Rattle.history.specs.declared.batches.Batch.{Batch}
+use Rattle.history.specs.declared.batches.Place.{Place}
 use Rattle.history.specs.Table.{tableLength, Filled, Room, Noted, Tabulated, Whole}
 use Rattle.history.proofs.Along.{Along, along-start, along-found, along-here, along-next}
+use Rattle.history.proofs.Looking.{batched-none}
 use Rattle.history.proofs.Filling.{filled-none, filled-all}
 use Rattle.history.proofs.Tracing.{traced-room}
 
 -- The loop of `fill` has come to record i.
-pub record Reached (log : List ℕ) (end : ℕ) (old callers chains table : List ℕ) (at count i : ℕ) : Type 0 where
+pub record Reached (log : List ℕ) (end : ℕ) (old callers chains table : List ℕ) (at count : ℕ) (batch : Batch) (i : ℕ) : Type 0 where
   -- of a readable log, which stands at this offset
   pub whole : Whole log end
   pub along : Along log (whole .records) at i
   -- the tables hold the records before it
   pub filled : Filled (whole .records) old i count callers chains table
+  -- and it is in this batch, or begins another
+  pub batched : Batched (whole .records) i batch
 
 pub reached-start : {log : List ℕ} {end : ℕ} → Whole log end → (table : List ℕ) → length table ≡ tableLength
-    → Reached log end table newKeys newChains table headerLength 0 0
-reached-start whole table t = record { whole = whole; along = along-start whole; filled = filled-none (whole .records) table t }
+    → Reached log end table newKeys newChains table headerLength 0 (record { stop = 0; returns = 0; calls = 0 }) 0
+reached-start whole table t =
+    record { whole = whole; along = along-start whole; filled = filled-none (whole .records) table t; batched = batched-none (whole .records) }
 
-module _ {log : List ℕ} {end : ℕ} {old callers chains table : List ℕ} {at count i : ℕ} (reached : Reached log end old callers chains table at count i)
+module _ {log : List ℕ} {end : ℕ} {old callers chains table : List ℕ} {at count : ℕ} {before : Batch} {i : ℕ} (reached : Reached log end old callers chains table at count before i)
     (l : i < end) where
-  below : i < length (reached .whole .records)
+  abbrev records : List Record
+  records = reached .whole .records
+
+  below : i < length records
   below = omega (arith, reached .whole .counted)
+
+  regular : Regular records
+  regular = reached .along .readable .partial .regular
 
   -- there is a record
   pub reached-found : {number : ℕ} {d : Decoded} → d ≡ decodeAt log at → d ≡ Malformed number → ⊥
   reached-found = along-found (reached .along) below
 
   -- and room for what it says
-  pub reached-room : Room i count end callers chains table
-  reached-room =
-      let few = reached .along .readable .partial .regular .few in
-      record {
-        index-small = omega (arith, few, below);
-        end-small = omega (arith, few, reached .whole .counted);
-        callers-room = traced-room below few (reached .filled .traced);
-        table-sized = reached .filled .table-sized;
-      }
-
-  pub reached-next : {r : Record} {next : ℕ} {d : Decoded} → d ≡ decodeAt log at → d ≡ Found r next
-      → {count' : ℕ} {callers' chains' table' : List ℕ} → Noted r i count end callers chains table count' callers' chains' table'
-      → Reached log end old callers' chains' table' next count' (i + 1)
-  reached-next e f noted = record {
-    whole = reached .whole;
-    along = along-next (reached .along) below e f;
-    filled = noted .kept (reached .whole .records) old (reached .along .readable .partial .regular) (reached .whole .counted) l
-        (along-here (reached .along) below e f) (reached .filled);
+  pub reached-room : Room count end callers chains table
+  reached-room = record {
+    end-small = omega (arith, regular .few, reached .whole .counted);
+    callers-room = traced-room below (regular .few) (reached .filled .traced);
+    table-sized = reached .filled .table-sized;
   }
 
-pub reached-end : {log : List ℕ} {end : ℕ} {old callers chains table : List ℕ} {at count i : ℕ} → Reached log end old callers chains table at count i → end ≤ i → Tabulated (readLog log) old table
+  module _ {r : Record} {next : ℕ} {d : Decoded} (e : d ≡ decodeAt log at) (f : d ≡ Found r next) where
+    -- its position can be found
+    pub reached-beside : Beside log r next i end count before
+    reached-beside = record {
+      whole = reached .whole;
+      within = l;
+      here = along-here (reached .along) below e f;
+      stands = along-next (reached .along) below e f .stands;
+      counted = reached .filled .traced .counted;
+      batched = reached .batched;
+    }
+
+    pub reached-next : {p : Place} → PlaceFound log i p → {count' : ℕ} {callers' chains' table' : List ℕ} → Noted r (p .position) count end callers chains table count' callers' chains' table'
+        → Reached log end old callers' chains' table' next count' (p .batch) (i + 1)
+    reached-next found noted = record {
+      whole = reached .whole;
+      along = along-next (reached .along) below e f;
+      filled = noted .kept records old i regular (reached .whole .counted) l (along-here (reached .along) below e f) (found .at records (reached .whole .reads)) (reached .filled);
+      batched = found .batched records (reached .whole .reads);
+    }
+
+pub reached-end : {log : List ℕ} {end : ℕ} {old callers chains table : List ℕ} {at count : ℕ} {batch : Batch} {i : ℕ} → Reached log end old callers chains table at count batch i → end ≤ i → Tabulated (readLog log) old table
 reached-end {log} {i = i} reached l =
     let last : i ≡ length (reached .whole .records) = omega (arith, reached .along .within, reached .whole .counted) in
     rw (reached .whole .reads) (filled-all (rw last at (reached .filled)))

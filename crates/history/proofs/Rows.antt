@@ -1,20 +1,24 @@
 -- How a table of runs is proved to hold, for the crates above too, and that the tables of this crate hold. What is read and what is
 -- right is computed, for a whole table at once.
-use Prim.Native.Nat.{ℕ}
+use Prim.Native.Nat.{ℕ, suc}
 use mathlib.Core.Path.{_≡_, refl}
 use mathlib.Core.Bool.{true, decide, decide-iff}
 use mathlib.Core.Logic.{Dec·and, Dec·not}
 use mathlib.Core.List.{List, [], _∷_, map}
+use native.Mathlib.Decide.{ℕ-discrete}
+use lib.ListN.{length}
+use Rattle.record.specs.declared.record.Record.{Record}
 use Rattle.record.specs.Number.{bigEndian, bytesOf}
 use Rattle.record.specs.Frame.{frameAt}
 use Rattle.record.specs.Record.{lengthOf, eventOf, encode, decodeAt}
-use Rattle.reader.specs.Log.{ofOthers, pendingCalls, pendingKind, earliestRemove, addedValues, eventFault, fault, scan, readPartial, operations, encodeAll, Reading, readable, readLog, encodeLog}
+use Rattle.reader.specs.Log.{pendingKind, returnedAt, pendingRemove, addedValues, eventFault, fault, scan, readPartial, operations, encodeAll, Reading, readable, readLog, encodeLog}
 use Rattle.table.specs.Table.{isIn}
 use Rattle.history.specs.Each.{Each}
 use Rattle.history.specs.History.{History}
 use Rattle.history.specs.Object.{Object, Queue, Cell}
-use Rattle.history.specs.Operations.{callIndex, firstOf, positionOf, historyOf}
-use Rattle.history.specs.Runs.{recordsFrom, recordsOf, Row, Holds, Correct, AllLegal, linearizations, NoneLegal, noLinearizations, openLinearizations, noOpenLinearizations, cellLinearizations, noCellLinearizations}
+use Rattle.history.specs.Positions.{tally, positionOf}
+use Rattle.history.specs.Operations.{callIndex, firstOf, historyOf}
+use Rattle.history.specs.Runs.{recordsFrom, recordsOf, Row, Holds, Correct, AllLegal, linearizations, NoneLegal, noLinearizations, openLinearizations, noOpenLinearizations, cellLinearizations, noCellLinearizations, StandAt, TickRow, TicksRight, tickRows}
 use Rattle.history.proofs.Deciding.{linearization?}
 
 -- whether each of a list has a property
@@ -34,11 +38,11 @@ none-legal? object h lists = each? (λ listed. Dec·not (linearization? object h
 
 -- the history of a row's run, and what its log is read as; to unfold the two is to unfold all that computes them
 unfoldable pub history : {A : Type 0} → Row A → History
-unfolding recordsFrom operations callIndex firstOf positionOf
+unfolding recordsFrom operations callIndex firstOf tally positionOf
 history row = historyOf (recordsOf (row .run))
 
 unfoldable pub reading : {A : Type 0} → Row A → Reading
-unfolding recordsFrom encode encodeAll bytesOf bigEndian lengthOf eventOf frameAt decodeAt ofOthers pendingCalls pendingKind earliestRemove addedValues isIn eventFault fault scan readPartial
+unfolding recordsFrom encode encodeAll bytesOf bigEndian lengthOf eventOf frameAt decodeAt pendingKind returnedAt pendingRemove addedValues isIn eventFault fault scan readPartial
 reading row = readLog (encodeLog (recordsOf (row .run)))
 
 -- a table is correct if what its rows say is decided to be right
@@ -80,3 +84,19 @@ cell-linearizations-correct = rows-correct (all-legal? Cell) cellLinearizations 
 pub no-cell-linearizations-correct : Each (Correct (NoneLegal Cell)) noCellLinearizations
 unfolding decide each? none-legal? history
 no-cell-linearizations-correct = rows-correct (none-legal? Cell) noCellLinearizations refl
+
+-- the rows with ticks
+stand-at? : (records : List Record) (i : ℕ) (positions : List ℕ) → Dec (StandAt records i positions)
+unfolding Dec·and
+stand-at? records i [] = ℕ-discrete i (length records)
+stand-at? records i (p ∷ ps) = Dec·and (ℕ-discrete (positionOf records i) p) (stand-at? records (suc i) ps)
+
+ticks-right? : (row : TickRow) → Dec (TicksRight row)
+unfolding operations callIndex firstOf tally positionOf Dec·and stand-at? all-legal? none-legal?
+ticks-right? row =
+    Dec·and (stand-at? (row .records) 0 (row .positions))
+    (Dec·and (all-legal? Queue (historyOf (row .records)) (row .legal)) (none-legal? Queue (historyOf (row .records)) (row .illegal)))
+
+pub tick-rows-right : Each TicksRight tickRows
+unfolding decide each? ticks-right?
+tick-rows-right = decide-iff (each? ticks-right? tickRows) .0 refl

@@ -15,7 +15,7 @@ use Rattle.reader.proofs.Laws.{few-operations}
 use Rattle.history.specs.Operations.{callIndex, operationAt}
 use Rattle.history.specs.Owners.{Traced, CallersRoom, Owned}
 use Rattle.history.proofs.Basics.{up-to}
-use Rattle.history.proofs.Events.{isCall-small}
+use Rattle.reader.proofs.Events.{isCall-small}
 use Rattle.history.proofs.Numbering.{index-of-rank, rank-step, ranks-rise, ranks-below, called-before, calls-rise}
 use Rattle.history.proofs.Owning.{operation-called, operation-answered, call-before}
 

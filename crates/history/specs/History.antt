@@ -43,11 +43,13 @@ pub record History : Type 0 where
 abbrev pub Returned : History → ℕ → Type 0
 Returned h o = h .ret o < h .end
 
--- "Operation o precedes p if o's return record stands before p's call record."
+-- Document 02, change 3: "an operation precedes another exactly if its return's tick is lower than the other's call's tick." That is stated of the
+-- records of a log by `PrecedesByTicks` in Operations.antt, and here by positions; `precedes-by-ticks` in proofs/Laws.antt says that it is the same.
 abbrev pub Precedes : History → ℕ → ℕ → Type 0
 Precedes h o p = h .ret o < h .call p
 
--- What holds of the history of every readable log, for any positions that have the laws of proofs/Positions.antt.
+-- What holds of the history of every readable log, for any positions that have the laws of proofs/Positions.antt. Everything above knows time by this
+-- and `Precedes` alone, so there are no ticks from here on.
 pub record Lawful (h : History) : Type 0 where
   pub kinds : (o : ℕ) → o < h .count → h .kind o ≤ emptyRemove
   -- an operation is called before it returns

@@ -3,10 +3,12 @@ pub mod History
 pub mod RunFrom
 pub mod Register
 pub mod Linearization
+pub mod Positions
 pub mod Operations
 pub mod Sheet
 pub mod Each
 pub mod Runs
 pub mod Owners
 pub mod Table
+pub mod Batches
 pub mod Answers

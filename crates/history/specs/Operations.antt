@@ -1,6 +1,6 @@
 -- The operations that the records of a log tell of. Document 01, "The log": "Operations are numbered from 0 in the order of
 -- their call records."
-use Prim.Native.Nat.{ℕ, zero, suc, _+_, _-_}
+use Prim.Native.Nat.{ℕ, zero, suc, _+_, _-_, _<_}
 use mathlib.Core.List.{List, [], _∷_}
 use lib.ListN.{length, drop}
 use lib.Dec.{ltb, eqb}
@@ -12,6 +12,7 @@ use Rattle.record.specs.declared.record.Event.the-variants.{CallAdd, CallRemove
 use Rattle.record.specs.declared.record.Record.{Record}
 use Rattle.reader.specs.Log.{isCall, operations}
 use Rattle.reader.specs.Readable.{recordOf}
+use Rattle.history.specs.Positions.{positionOf, returnPosition}
 use Rattle.history.specs.History.{History, add, remove, emptyRemove, noKind}
 
 -- the index of the call record of operation o
@@ -49,14 +50,6 @@ valueBy CallRemove return = valueIn return
 valueBy ReturnAdd return = 0
 valueBy (ReturnRemove x) return = 0
 
--- Where the record with an index stands in time. Everything above knows positions by the laws of `Lawful`, not that they are indices.
-unfoldable pub positionOf : List Record → ℕ → ℕ
-positionOf records i = i
-
--- the position of a return, or a number above every position if there is none
-abbrev pub returnPosition : List Record → ℕ → ℕ
-returnPosition records i = if ltb i (length records) then positionOf records i else length records
-
 -- the history of a log with these records
 abbrev pub historyOf : List Record → History
 historyOf records = record {
@@ -67,6 +60,12 @@ historyOf records = record {
   ret = λ o. returnPosition records (returnIndex records (callIndex records o));
   end = length records;
 }
+
+-- Document 02, change 3: "an operation precedes another exactly if its return's tick is lower than the other's call's tick". So it is said of the
+-- records of a log, and `precedes-by-ticks` in proofs/Laws.antt says that it is `Precedes`. An operation without return precedes none.
+pub record PrecedesByTicks (records : List Record) (o p : ℕ) : Type 0 where
+  pub returned : returnIndex records (callIndex records o) < length records
+  pub lower : recordOf records (returnIndex records (callIndex records o)) .tick < recordOf records (callIndex records p) .tick
 
 -- the operation that a client called last, by the records of the past, latest first: its call has as many calls before it as its
 -- number says

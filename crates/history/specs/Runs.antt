@@ -1,10 +1,11 @@
 -- Document 01, "Runs": "A7( calls add of 7, A7) returns it; R( calls remove, R7) and R-) return it. Ticks rise by one; each
 -- operation has a client of its own." What a table of runs is, and tables of lists that are legal orders of a run and of lists that
--- are not: of a queue, of a queue with a remove that does not return, and of a cell. The runs that the document marks * are a table
+-- are not: of a queue, of a queue with a remove that does not return, of a cell, and of a queue with ticks that do not rise. The runs that the document marks * are a table
 -- of the crate violations, which knows the patterns.
-use Prim.Native.Nat.{ℕ, _+_}
+use Prim.Native.Nat.{ℕ, suc, _+_}
 use mathlib.Core.Path.{_≡_}
 use mathlib.Core.List.{List, [], _∷_}
+use lib.ListN.{length}
 use Rattle.record.specs.declared.record.Removed.the-variants.{Value, Empty}
 use Rattle.record.specs.declared.record.Event.{Event}
 use Rattle.record.specs.declared.record.Event.the-variants.{CallAdd, CallRemove, ReturnAdd, ReturnRemove}
@@ -12,8 +13,9 @@ use Rattle.record.specs.declared.record.Record.{Record}
 use Rattle.reader.specs.Log.{readable, readLog, encodeLog}
 use Rattle.history.specs.Each.{Each}
 use Rattle.history.specs.History.{History}
-use Rattle.history.specs.Object.{Object}
+use Rattle.history.specs.Object.{Object, Queue}
 use Rattle.history.specs.Linearization.{Linearization}
+use Rattle.history.specs.Positions.{positionOf}
 use Rattle.history.specs.Operations.{historyOf}
 
 -- a run: its events, each with its client, which is the number of its operation
@@ -145,4 +147,50 @@ noCellLinearizations =
     record { run = (0, CallRemove) ∷ (1, CallAdd 0) ∷ (0, ReturnRemove (Value 0)) ∷ []; says = (0 ∷ 1 ∷ []) ∷ (0 ∷ []) ∷ [] } ∷
     -- R(: a read that does not return is in no order
     record { run = (0, CallRemove) ∷ []; says = (0 ∷ []) ∷ [] } ∷
+    []
+
+-- Document 02, change 3: "within one tick the order of records is chance". A run whose ticks are given: its records, the positions at which they stand,
+-- and lists that are and that are not legal orders of it.
+pub record TickRow : Type 0 where
+  pub records : List Record
+  pub positions : List ℕ
+  pub legal : List (List ℕ)
+  pub illegal : List (List ℕ)
+
+-- a record of a tick
+abbrev pub at : ℕ → ℕ → Event → Record
+at tick client event = record { client = client; tick = tick; event = event }
+
+-- The records from i on stand at these positions.
+abbrev pub StandAt : List Record → ℕ → List ℕ → Type 0
+StandAt records i [] = i ≡ length records
+StandAt records i (p ∷ ps) = (positionOf records i ≡ p) × StandAt records (suc i) ps
+
+abbrev pub TicksRight : TickRow → Type 0
+TicksRight row =
+    StandAt (row .records) 0 (row .positions) × (AllLegal Queue (historyOf (row .records)) (row .legal) × NoneLegal Queue (historyOf (row .records)) (row .illegal))
+
+abbrev pub tickRows : List TickRow
+tickRows =
+    -- A1( A1) A2( A2), the return of 1 and the call of 2 in one tick: neither add precedes the other
+    record {
+      records = at 1 0 (CallAdd 1) ∷ at 2 0 ReturnAdd ∷ at 2 1 (CallAdd 2) ∷ at 3 1 ReturnAdd ∷ [];
+      positions = 0 ∷ 2 ∷ 1 ∷ 3 ∷ [];
+      legal = (0 ∷ 1 ∷ []) ∷ (1 ∷ 0 ∷ []) ∷ [];
+      illegal = [];
+    } ∷
+    -- the same, but the call of 2 has a higher tick than the return of 1
+    record {
+      records = at 1 0 (CallAdd 1) ∷ at 2 0 ReturnAdd ∷ at 3 1 (CallAdd 2) ∷ at 3 1 ReturnAdd ∷ [];
+      positions = 0 ∷ 1 ∷ 2 ∷ 3 ∷ [];
+      legal = (0 ∷ 1 ∷ []) ∷ [];
+      illegal = (1 ∷ 0 ∷ []) ∷ [];
+    } ∷
+    -- A7( A7) R( R-), all in one tick: the remove may come first
+    record {
+      records = at 1 0 (CallAdd 7) ∷ at 1 0 ReturnAdd ∷ at 1 1 CallRemove ∷ at 1 1 (ReturnRemove Empty) ∷ [];
+      positions = 0 ∷ 2 ∷ 1 ∷ 3 ∷ [];
+      legal = (1 ∷ 0 ∷ []) ∷ [];
+      illegal = (0 ∷ 1 ∷ []) ∷ [];
+    } ∷
     []

@@ -9,6 +9,7 @@ use Rattle.record.specs.declared.record.Record.{Record}
 use Rattle.reader.specs.Log.{maxRecords, Reading, readable, refused, readLog, operations}
 use Rattle.reader.specs.Readable.{recordOf, Regular}
 use Rattle.history.specs.History.{History}
+use Rattle.history.specs.Positions.{positionOf}
 use Rattle.history.specs.Operations.{callIndex, returnIndex, kindBy, valueBy, historyOf}
 use Rattle.history.specs.Owners.{Traced, CallersRoom}
 
@@ -77,7 +78,7 @@ pub record Entered (table : List ℕ) (o kind value call ret : ℕ) (table' : Li
 -- a call of remove, which says nothing of one.
 abbrev pub Told : List Record → List ℕ → ℕ → Event → ℕ → Type 0
 Told records table o return ret =
-    Entry table o (kindBy (recordOf records (callIndex records o) .event) return) (valueBy (recordOf records (callIndex records o) .event) return) (callIndex records o) ret
+    Entry table o (kindBy (recordOf records (callIndex records o) .event) return) (valueBy (recordOf records (callIndex records o) .event) return) (positionOf records (callIndex records o)) ret
 
 -- The tables hold what the first n records say: of each operation called by then its client and its call, its kind, value and
 -- return if it has returned by then, and otherwise what its call alone says.
@@ -87,20 +88,19 @@ pub record Filled (records : List Record) (old : List ℕ) (n count : ℕ) (call
   pub untouched : Untouched count old table
   pub returned : (o : ℕ) → o < count → returnIndex records (callIndex records o) < n
       → Told records table o (recordOf records (returnIndex records (callIndex records o)) .event)
-      (returnIndex records (callIndex records o))
+      (positionOf records (returnIndex records (callIndex records o)))
   pub pending : (o : ℕ) → o < count → n ≤ returnIndex records (callIndex records o) → Told records table o CallRemove (length records)
 
 -- There is room for one record more.
-pub record Room (index count end : ℕ) (callers chains table : List ℕ) : Type 0 where
-  pub index-small : index < maxRecords
+pub record Room (count end : ℕ) (callers chains table : List ℕ) : Type 0 where
   pub end-small : end ≤ maxRecords
   pub callers-room : CallersRoom count callers chains
   pub table-sized : length table ≡ tableLength
 
--- The tables hold one record more, r, which has this index.
-pub record Noted (r : Record) (index count end : ℕ) (callers chains table : List ℕ) (count' : ℕ) (callers' chains' table' : List ℕ) : Type 0 where
-  pub kept : (records : List Record) (old : List ℕ) → Regular records → length records ≡ end → index < end → recordOf records index ≡ r
-      → Filled records old index count callers chains table → Filled records old (index + 1) count' callers' chains' table'
+-- The tables hold one record more, r, which stands at this position.
+pub record Noted (r : Record) (at count end : ℕ) (callers chains table : List ℕ) (count' : ℕ) (callers' chains' table' : List ℕ) : Type 0 where
+  pub kept : (records : List Record) (old : List ℕ) (n : ℕ) → Regular records → length records ≡ end → n < end → recordOf records n ≡ r → positionOf records n ≡ at
+      → Filled records old n count callers chains table → Filled records old (n + 1) count' callers' chains' table'
 
 -- A log that is readable, of so many records.
 pub record Whole (log : List ℕ) (count : ℕ) : Type 0 where

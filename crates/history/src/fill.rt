@@ -7,6 +7,8 @@ ghost use Rattle.record.specs.declared.record.Event.the-variants.{ReturnRemove}
 ghost use Rattle.reader.specs.Log.{maxRecords, readLog};
 ghost use Rattle.history.specs.Operations.{removeKind};
 ghost use Rattle.history.specs.Table.{tableLength, Tabulated, Entered, Room, Noted, Whole};
+use crate::batches::Batch;
+use crate::batches::place_of;
 use crate::operations::ADD;
 use crate::operations::CALL;
 use crate::operations::EMPTY_REMOVE;
@@ -64,25 +66,23 @@ fn enter(table: &mut Operations, o: usize, kind: u32, value: u32, call: u32, ret
     table[at + RETURN] = returned;
 }
 
-// Notes the record with an index: a call's operation is entered as returning at the end until its return is read. Answers how many
+// Notes a record that stands at a position: a call's operation is entered as returning at the end until its return is read. Answers how many
 // operations there are then.
 fn note(
     r: Record,
-    index: usize,
+    at: u32,
     count: usize,
     end: usize,
     callers: &mut Keys,
     chains: &mut Chains,
     table: &mut Operations,
 ) -> usize
-    requires { ⌜ Room index count end (now callers) (now chains) (now table) ⌝ }
-    ensures { λ q. ⌜ Noted r index count end (now (callers .entry)) (now (chains .entry)) (now (table .entry)) q (now (callers .exit)) (now (chains .exit)) (now (table .exit)) ⌝ }
+    requires { ⌜ Room count end (now callers) (now chains) (now table) ⌝ }
+    ensures { λ q. ⌜ Noted r at count end (now (callers .entry)) (now (chains .entry)) (now (table .entry)) q (now (callers .exit)) (now (chains .exit)) (now (table .exit)) ⌝ }
 {
     let event = r.event;
     let owner = owner_of(r, count, callers, chains);
     let o = owner.operation;
-    // A record's position is its index.
-    let at = index as u32;
     match event {
         Event::CallAdd(value) => {
             enter(table, o, ADD, value, at, end as u32);
@@ -113,6 +113,11 @@ pub(crate) fn fill(log: &[u8], end: usize, table: &mut Operations)
     let mut chains = [0u16; CHAINS];
     let mut at = HEADER;
     let mut count = 0;
+    let mut batch = Batch {
+        stop: 0,
+        returns: 0,
+        calls: 0,
+    };
     let mut i = 0;
     while i < end {
         match decode_at(log, at) {
@@ -121,7 +126,17 @@ pub(crate) fn fill(log: &[u8], end: usize, table: &mut Operations)
                 return;
             }
             Decoded::Found { record, next } => {
-                count = note(record, i, count, end, &mut callers, &mut chains, table);
+                let place = place_of(log, record, next, i, end, count, batch);
+                count = note(
+                    record,
+                    place.position,
+                    count,
+                    end,
+                    &mut callers,
+                    &mut chains,
+                    table,
+                );
+                batch = place.batch;
                 at = next;
             }
         }

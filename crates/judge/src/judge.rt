@@ -13,7 +13,7 @@ use patterns::find::ORDER;
 use reader::format::MAX_RECORDS;
 use reader::log::Checked;
 
-// An order, with its length; a pattern, with its number and how many operations it lists; or a refusal: of the log under 1 to 10, of the sheet
+// An order, with its length; a pattern, with its number and how many operations it lists; or a refusal: of the log, of the sheet
 // under 24 or, where a session is judged, by how it stands. The operations stand on the sheet.
 pub enum Verdict {
     Order(usize),

@@ -8,9 +8,9 @@ use lib.ListN.{length, getD, set, replicate, take, length-replicate}
 use lib.Seq.{getD-take, getD-set-same, getD-set-other}
 use lib.Dec.{ltb}
 use borrow.Author.Tests.{lt-ltb, le-ltb}
-use Rattle.table.specs.Table.{isIn, position}
-use Rattle.table.proofs.Lists.{used, zeros, isIn-at, isIn-nowhere, position-first, position-nowhere}
-use Rattle.map.specs.Map.{mapSize, slotCount, Linked, Latest}
+use Rattle.table.specs.Table.{isIn}
+use Rattle.table.proofs.Lists.{used, zeros, isIn-at, isIn-nowhere}
+use Rattle.map.specs.Map.{mapSize, slotCount, Top, Linked, NarrowLinked, Latest}
 
 -- the arrays of a new map, which has no entries
 abbrev pub newKeys : List ℕ
@@ -19,14 +19,33 @@ newKeys = replicate mapSize 0
 abbrev pub newChains : List ℕ
 newChains = replicate (slotCount + mapSize) 0
 
+-- without entries no slot leads to one
+top-none : {slot-of : ℕ → ℕ} {keys : List ℕ} {slot : ℕ} → Top slot-of keys 0 slot 0
+top-none = record { within = omega arith; above = λ p b. absurd (omega arith); shares = λ some. absurd (omega arith) }
+
 pub new-linked : Linked newKeys newChains 0
 new-linked = record {
   within = omega arith;
   keys-sized = length-replicate {A = ℕ} mapSize 0;
   chains-sized = length-replicate {A = ℕ} (slotCount + mapSize) 0;
-  tops = λ slot l. rw (zeros (slotCount + mapSize) slot) (record { within = omega arith; above = λ p b. absurd (omega arith); shares = λ some. absurd (omega arith) });
-  links = λ i l. absurd (omega arith);
+  chained = record { heads = λ slot l. rw (zeros (slotCount + mapSize) slot) top-none; links = λ i l. absurd (omega arith) };
 }
+
+-- and the tables of a new map of narrow keys
+abbrev pub newTable : List ℕ
+newTable = replicate mapSize 0
+
+pub new-narrow : NarrowLinked newTable newTable newTable 0
+new-narrow = record {
+  within = omega arith;
+  keys-sized = sized;
+  heads-sized = sized;
+  links-sized = sized;
+  chained = record { heads = λ slot l. rw (zeros mapSize slot) top-none; links = λ i l. absurd (omega arith) };
+}
+  where
+    sized : length newTable ≡ mapSize
+    sized = length-replicate {A = ℕ} mapSize 0
 
 -- a key that is put in stands after those in use, which stay as they were
 module _ (keys : List ℕ) (count x : ℕ) {keys' : List ℕ} (put : keys' ≡ set keys count x) where
@@ -54,14 +73,3 @@ module _ {keys : List ℕ} {count x r : ℕ} (long : count ≤ length keys) (lat
       by : Dec (r < count) → ltb r count ≡ isIn x (take count keys)
       by (yes l) = lt-ltb r count l ∙ sym (isIn-at x (take count keys) r (omega (arith, in-use)) (at r l (latest .holds l)))
       by (no n) = le-ltb r count (omega arith) ∙ sym (isIn-nowhere x (take count keys) (λ p l e. n (below p l e .0)))
-
-  -- where no key is held twice, `find` answers what `find` of a table does
-  pub latest-position : ((p q : ℕ) → p < count → q < count → getD keys p 0 ≡ getD keys q 0 → p ≡ q) → r ≡ position x (take count keys)
-  latest-position distinct = by (decLt r count)
-    where
-      first : r < count → (p : ℕ) → p < r → getD (take count keys) p 0 ≡ x → ⊥
-      first l p b e = omega (arith, distinct p r (omega arith) l (sym (getD-take count keys p 0 (omega arith)) ∙ e ∙ sym (latest .holds l)))
-
-      by : Dec (r < count) → r ≡ position x (take count keys)
-      by (yes l) = sym (position-first x (take count keys) r (omega (arith, in-use)) (at r l (latest .holds l)) (first l))
-      by (no n) = omega (arith, in-use, latest .within, position-nowhere x (take count keys) (λ p l e. n (below p l e .0)))

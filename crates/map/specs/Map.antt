@@ -14,6 +14,17 @@ pub record Latest (keys : List ℕ) (count x r : ℕ) : Type 0 where
   pub holds : r < count → getD keys r 0 ≡ x
   pub last : (p : ℕ) → p < count → getD keys p 0 ≡ x → (r < count) × (p ≤ r)
 
+-- n is the index plus 1 of the latest of the first `count` entries that has a slot, or 0 if none has it.
+pub record Top (slot-of : ℕ → ℕ) (keys : List ℕ) (count slot n : ℕ) : Type 0 where
+  pub within : n ≤ count
+  pub above : (p : ℕ) → p < count → slot-of (getD keys p 0) ≡ slot → p < n
+  pub shares : 0 < n → slot-of (getD keys (n - 1) 0) ≡ slot
+
+-- The heads lead from each slot to its latest entry, and the links from each entry to the one before it in its slot.
+pub record Chained (slot-of : ℕ → ℕ) (slots : ℕ) (keys : List ℕ) (count : ℕ) (head link : ℕ → ℕ) : Type 0 where
+  pub heads : (slot : ℕ) → slot < slots → Top slot-of keys count slot (head slot)
+  pub links : (i : ℕ) → i < count → Top slot-of keys i (slot-of (getD keys i 0)) (link i)
+
 abbrev pub slotCount : ℕ
 slotCount = 512
 
@@ -21,16 +32,21 @@ slotCount = 512
 abbrev pub slotOf : ℕ → ℕ
 slotOf x = x * 2654435761 / 8388608 % slotCount
 
--- n is the index plus 1 of the latest of the first `count` entries that has a slot, or 0 if none has it.
-pub record Top (keys : List ℕ) (count slot n : ℕ) : Type 0 where
-  pub within : n ≤ count
-  pub above : (p : ℕ) → p < count → slotOf (getD keys p 0) ≡ slot → p < n
-  pub shares : 0 < n → slotOf (getD keys (n - 1) 0) ≡ slot
-
--- The chains lead from each slot to its latest entry, and from each entry to the one before it in its slot.
+-- The chains hold the heads of the slots, and after them the links.
 pub record Linked (keys chains : List ℕ) (count : ℕ) : Type 0 where
   pub within : count ≤ mapSize
   pub keys-sized : length keys ≡ mapSize
   pub chains-sized : length chains ≡ slotCount + mapSize
-  pub tops : (slot : ℕ) → slot < slotCount → Top keys count slot (getD chains slot 0)
-  pub links : (i : ℕ) → i < count → Top keys i (slotOf (getD keys i 0)) (getD chains (slotCount + i) 0)
+  pub chained : Chained slotOf slotCount keys count (λ slot. getD chains slot 0) (λ i. getD chains (slotCount + i) 0)
+
+-- the slot of a narrow key, one of 16 bits: its ten low bits
+abbrev pub narrowSlotOf : ℕ → ℕ
+narrowSlotOf x = x % mapSize
+
+-- A map of narrow keys, with its heads and its links in tables of their own: there are as many slots as entries.
+pub record NarrowLinked (keys heads links : List ℕ) (count : ℕ) : Type 0 where
+  pub within : count ≤ mapSize
+  pub keys-sized : length keys ≡ mapSize
+  pub heads-sized : length heads ≡ mapSize
+  pub links-sized : length links ≡ mapSize
+  pub chained : Chained narrowSlotOf mapSize keys count (λ slot. getD heads slot 0) (λ i. getD links i 0)

@@ -1,2 +1,3 @@
 // A map from keys to the entries that hold them.
 pub mod map;
+pub mod narrow;

@@ -14,6 +14,5 @@ pub mod Picking
 pub mod Projecting
 pub mod Selecting
 pub mod Sizes
-pub mod Times
 pub mod Turns
 pub mod Writing

@@ -11,14 +11,13 @@ use Rattle.record.specs.declared.record.Record.{Record}
 use Rattle.reader.specs.Log.{operations}
 use Rattle.reader.specs.Readable.{recordOf, PartialLog}
 use Rattle.history.specs.History.{Returned, Precedes}
-use Rattle.history.specs.Operations.{callIndex, returnIndex, positionOf, historyOf}
-use Rattle.history.proofs.Numbering.{call-of}
-use Rattle.history.proofs.Positions.{position-alike}
+use Rattle.history.specs.Operations.{callIndex, returnIndex, historyOf, PrecedesByTicks}
+use Rattle.history.proofs.Positions.{position-returned}
+use Rattle.history.proofs.Laws.{precedes-by-ticks}
 use Rattle.violations.specs.Parts.{HasValue, Part, Kept}
-use Rattle.projection.proofs.Picking.{Picked, source-order}
+use Rattle.projection.proofs.Picking.{Picked}
 use Rattle.projection.proofs.Turns.{Together}
-use Rattle.projection.proofs.Times.{Before, returned-exactly, precedes-exactly}
-use Rattle.projection.proofs.Originals.{original, original-call, same-call-record, original-only, original-known, original-one, original-every, original-return, same-return-record, return-there}
+use Rattle.projection.proofs.Originals.{original, same-call-record, original-only, original-known, original-one, original-every, same-return-record, return-there}
 
 -- The operations whose calls are marked are all operations of some values, and some empty removes.
 abbrev pub OnValues : (ℕ → Bool) → List Record → Type 0
@@ -37,23 +36,6 @@ module _ {marked : ℕ → Bool} {records kept : List Record} (together : Togeth
   original-valued : (q : ℕ) → HasValue (historyOf kept) q → HasValue (historyOf records) (original p q)
   original-valued q x = record { known = original-known p q (x .known); valued = omega (arith, x .valued, kind-same q (x .known)) }
 
-  -- returns stand before calls alike
-  return-before : (o q : ℕ) → o < operations kept → q < operations kept → returnIndex kept (callIndex kept o) < length kept
-      → (positionOf records (returnIndex records (callIndex records (original p o))) < positionOf records (callIndex records (original p q)))
-      ↔ (positionOf kept (returnIndex kept (callIndex kept o)) < positionOf kept (callIndex kept q))
-  return-before o q h k l = rw (original-return together p o h l, original-call p q k)
-      (position-alike records kept (p .source return) (p .source call) return call (p .below return l) (p .below call there) l there (p .same return l) (p .same call there)
-      (source-order p return call l there))
-    where
-      return : ℕ
-      return = returnIndex kept (callIndex kept o)
-
-      call : ℕ
-      call = callIndex kept q
-
-      there : call < length kept
-      there = call-of kept q k .below
-
 -- Operation q of the kept records is operation o of all: its call and its return are the same records.
 pub record SameRecords (records kept : List Record) (o q : ℕ) : Type 0 where
   pub call : recordOf kept (callIndex kept q) ≡ recordOf records (callIndex records o)
@@ -63,18 +45,22 @@ pub record SameRecords (records kept : List Record) (o q : ℕ) : Type 0 where
 
 module _ {marked : ℕ → Bool} {records kept : List Record} (together : Together marked records) (p : Picked marked records kept)
     {log log' : List ℕ} (read : PartialLog log records) (read' : PartialLog log' kept) (whole : OnValues marked records) where
-  -- openness and precedence are told by returns that are there, and by where they stand, so they are kept too
+  -- openness and precedence are told by returns that are there, and by their ticks and those of calls, so they are kept too
   returned-same : (q : ℕ) → q < operations kept → Returned (historyOf records) (original p q) ↔ Returned (historyOf kept) q
-  returned-same q h = Iff·trans (returned-exactly read (original p q)) (Iff·trans (return-there together p q h) (Iff·symm (returned-exactly read' q)))
+  returned-same q h =
+      Iff·trans (position-returned records (returnIndex records (callIndex records (original p q))))
+      (Iff·trans (return-there together p q h) (Iff·symm (position-returned kept (returnIndex kept (callIndex kept q)))))
 
   precedes-same : (o q : ℕ) → o < operations kept → q < operations kept → Precedes (historyOf records) (original p o) (original p q) ↔ Precedes (historyOf kept) o q
-  precedes-same o q h k = Iff·trans (precedes-exactly read (original p o) (original p q) (original-known p q k)) (Iff·trans (down, up) (Iff·symm (precedes-exactly read' o q k)))
+  precedes-same o q h k =
+      Iff·trans (precedes-by-ticks (read .regular) (original p o) (original p q) (original-known p o h) (original-known p q k))
+      (Iff·trans (down, up) (Iff·symm (precedes-by-ticks (read' .regular) o q h k)))
     where
-      down : Before records (original p o) (original p q) → Before kept o q
-      down b = let there = return-there together p o h .0 (b .0) in (there, return-before together p o q h k there .0 (b .1))
+      down : PrecedesByTicks records (original p o) (original p q) → PrecedesByTicks kept o q
+      down b = record { returned = return-there together p o h .0 (b .returned); lower = rw (same-return-record together p o h, same-call-record p q k) (b .lower) }
 
-      up : Before kept o q → Before records (original p o) (original p q)
-      up b = (return-there together p o h .1 (b .0), return-before together p o q h k (b .0) .1 (b .1))
+      up : PrecedesByTicks kept o q → PrecedesByTicks records (original p o) (original p q)
+      up b = record { returned = return-there together p o h .1 (b .returned); lower = rw (same-return-record together p o h, same-call-record p q k) at (b .lower) }
 
   -- so the history of the kept records is a part of the history of all
   pub picked-part : Part (historyOf records) (historyOf kept)

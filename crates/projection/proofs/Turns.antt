@@ -10,12 +10,12 @@ use mathlib.Core.List.{List}
 use lib.ListN.{length}
 use Rattle.record.specs.declared.record.Event.the-variants.{CallAdd, CallRemove}
 use Rattle.record.specs.declared.record.Record.{Record}
-use Rattle.reader.specs.Log.{isCall}
-use Rattle.reader.specs.Readable.{recordOf, asks, leaves, Next, Orderly}
+use Rattle.reader.specs.Log.{isCall, leaves}
+use Rattle.reader.specs.Readable.{recordOf, asks, Next, Orderly}
 use Rattle.reader.proofs.Laws.{follows}
-use Rattle.reader.proofs.Clients.{precedes-law}
+use Rattle.reader.proofs.Records.{precedes-law}
 use Rattle.history.proofs.Numbering.{next-is-return, next-of-one}
-use Rattle.history.proofs.Events.{leaves-call, call-leaves}
+use Rattle.reader.proofs.Events.{leaves-call, call-leaves, turns-change}
 use Rattle.projection.proofs.Picking.{Picked, PickedAt, client-same, event-same, next-picked}
 
 -- Record i is a call, and record j its return.
@@ -113,13 +113,47 @@ module _ {marked : ℕ → Bool} {records kept : List Record} (orderly : Orderly
       by (yes m) = omega (arith, p .rises i j m h)
       by (no m) = let e : i ≡ j = omega arith in omega (arith, ap (p .source) e)
 
+  -- a client's call has a higher tick than its return before: already the call after that return among all records has
+  rises : (i j : ℕ) → Next kept i j → isCall (recordOf kept j .event) ≡ 1 → recordOf kept i .tick < recordOf kept j .tick
+  rises i j n call = rw (p .same i here, p .same j (n .there)) (go (follows records (p .source i)))
+    where
+      here : i < length kept
+      here = omega (arith, n .later, n .there)
+
+      later : p .source i < p .source j
+      later = p .rises i j (n .later) (n .there)
+
+      client : recordOf records (p .source j) .client ≡ recordOf records (p .source i) .client
+      client = sym (client-same p j (n .there)) ∙ n .same ∙ client-same p i here
+
+      return : isCall (recordOf records (p .source i) .event) ≡ 0
+      return = omega (arith, call, turns-change (recordOf kept i .event) (recordOf kept j .event) (next i j n), ap isCall (event-same p i here))
+
+      go : ((k : ℕ) × Next records (p .source i) k) ⊎ ((k : ℕ) → p .source i < k → k < length records → recordOf records k .client ≡ recordOf records (p .source i) .client → ⊥)
+          → recordOf records (p .source i) .tick < recordOf records (p .source j) .tick
+      go (inr alone) = absurd (alone (p .source j) later (p .below j (n .there)) client)
+      go (inl (k, m)) = by (decLt (p .source j) k)
+        where
+          by : Dec (p .source j < k) → recordOf records (p .source i) .tick < recordOf records (p .source j) .tick
+          by (yes l) = absurd (m .between (p .source j) later l client)
+          by (no l) =
+              let turns = turns-change (recordOf records (p .source i) .event) (recordOf records k .event) (orderly .regular .next (p .source i) k m) in
+              omega (arith, orderly .regular .rises (p .source i) k m (omega (arith, return, turns)), orderly .regular .ticks k (p .source j) (omega arith) (p .below j (n .there)))
+
   once : (i j v : ℕ) → i < j → j < length kept → recordOf kept i .event ≡ CallAdd v → recordOf kept j .event ≡ CallAdd v → ⊥
   once i j v l h e f = orderly .regular .once (p .source i) (p .source j) v (p .rises i j l h) (p .below j h) (sym (event-same p i (omega arith)) ∙ e) (sym (event-same p j h) ∙ f)
 
   -- so they are those of a readable log
   pub picked-orderly : Orderly kept
   picked-orderly = record {
-    regular = record { few = omega (arith, p .fewer, orderly .regular .few); ticks = ticks; first = first; next = next; once = once };
+    regular = record {
+      few = omega (arith, p .fewer, orderly .regular .few);
+      ticks = ticks;
+      first = first;
+      next = next;
+      rises = rises;
+      once = once;
+    };
     small = λ i h. rw (p .same i h) (orderly .small (p .source i) (p .below i h));
     returned = returned;
   }

@@ -17,7 +17,7 @@ use Rattle.record.specs.declared.record.Event.the-variants.{CallAdd, CallRemove
 use Rattle.record.specs.declared.record.Record.{Record}
 use Rattle.record.specs.declared.record.Decoded.{Decoded}
 use Rattle.record.specs.declared.record.Decoded.the-variants.{Found, Malformed}
-use Rattle.reader.specs.Log.{logVersion, headerLength, maxRecords, countField, pendingCalls, pendingKind, addedValues, lastTick, Reading, readable, refused, eventFault, fault, afterDecode, unlessFault, scan, readPartial, pendingRemove, complete, readLog}
+use Rattle.reader.specs.Log.{logVersion, headerLength, maxRecords, countField, pendingKind, returnedAt, addedValues, lastTick, Reading, readable, refused, eventFault, fault, afterDecode, unlessFault, scan, readPartial, pendingRemove, complete, readLog}
 use Rattle.table.specs.Table.{isIn}
 use Rattle.reader.specs.Readable.{Within}
 
@@ -49,14 +49,14 @@ fault-numbered past r = tick (ltb (r .tick) (lastTick past))
     pick true m n hm hn = hm
     pick false m n hm hn = hn
 
-    event : (e : Event) (kind : ℕ) (values : List ℕ) → eventFault e kind values ≤ maxRefusal
-    event (CallAdd v) kind values = pick (not (eqb kind 0)) 7 _ (lit≤ tt) (pick (isIn v values) 9 0 (lit≤ tt) (lit≤ tt))
-    event CallRemove kind values = pick (not (eqb kind 0)) 7 0 (lit≤ tt) (lit≤ tt)
-    event ReturnAdd kind values = pick (not (eqb kind 1)) 8 0 (lit≤ tt) (lit≤ tt)
-    event (ReturnRemove x) kind values = pick (not (eqb kind 2)) 8 0 (lit≤ tt) (lit≤ tt)
+    event : (e : Event) (kind : ℕ) (repeats : Bool) (values : List ℕ) → eventFault e kind repeats values ≤ maxRefusal
+    event (CallAdd v) kind repeats values = pick (not (eqb kind 0)) 7 _ (lit≤ tt) (pick repeats 31 _ (lit≤ tt) (pick (isIn v values) 9 0 (lit≤ tt) (lit≤ tt)))
+    event CallRemove kind repeats values = pick (not (eqb kind 0)) 7 _ (lit≤ tt) (pick repeats 31 0 (lit≤ tt) (lit≤ tt))
+    event ReturnAdd kind repeats values = pick (not (eqb kind 1)) 8 0 (lit≤ tt) (lit≤ tt)
+    event (ReturnRemove x) kind repeats values = pick (not (eqb kind 2)) 8 0 (lit≤ tt) (lit≤ tt)
 
-    tick : (b : Bool) → (if b then 6 else eventFault (r .event) (pendingKind (pendingCalls past) (r .client)) (addedValues past)) ≤ maxRefusal
-    tick b = pick b 6 _ (lit≤ tt) (event (r .event) (pendingKind (pendingCalls past) (r .client)) (addedValues past))
+    tick : (b : Bool) → (if b then 6 else eventFault (r .event) (pendingKind past (r .client)) (returnedAt past (r .client) (r .tick)) (addedValues past)) ≤ maxRefusal
+    tick b = pick b 6 _ (lit≤ tt) (event (r .event) _ _ (addedValues past))
 
 scan-within : (log : List ℕ) (left at : ℕ) (past : List Record) → length past + left ≤ maxRecords → Within (scan log left at past)
 unfolding scan

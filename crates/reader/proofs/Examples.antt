@@ -8,7 +8,7 @@ use Rattle.record.specs.Record.{lengthOf, eventOf, encode, decodeAt}
 use Rattle.record.specs.declared.record.Removed.the-variants.{Value, Empty}
 use Rattle.record.specs.declared.record.Event.the-variants.{CallRemove, ReturnRemove}
 use Rattle.record.specs.declared.record.Decoded.the-variants.{Found}
-use Rattle.reader.specs.Log.{Reading, ofOthers, pendingCalls, pendingKind, earliestRemove, addedValues, eventFault, fault, scan, readPartial, readLog, operations, checked, encodeAll, encodeLog}
+use Rattle.reader.specs.Log.{Reading, pendingKind, returnedAt, pendingRemove, addedValues, eventFault, fault, scan, readPartial, readLog, operations, checked, encodeAll, encodeLog}
 use Rattle.table.specs.Table.{isIn}
 use Rattle.reader.specs.declared.log.Checked.{Checked}
 use Rattle.reader.specs.declared.log.Checked.the-variants.{Readable, Refused}
@@ -66,6 +66,12 @@ examples =
     record { log = 1 ∷ 0 ∷ 2 ∷ 7 ∷ 2 ∷ 0 ∷ 1 ∷ 0 ∷ 0 ∷ 0 ∷ 1 ∷ 7 ∷ 2 ∷ 0 ∷ 1 ∷ 0 ∷ 0 ∷ 0 ∷ 1 ∷ []; answer = Refused 7 1 } ∷
     -- the open call before the value
     record { log = 1 ∷ 0 ∷ 2 ∷ 11 ∷ 1 ∷ 0 ∷ 1 ∷ 0 ∷ 0 ∷ 0 ∷ 1 ∷ 0 ∷ 0 ∷ 0 ∷ 0 ∷ 11 ∷ 1 ∷ 0 ∷ 1 ∷ 0 ∷ 0 ∷ 0 ∷ 1 ∷ 0 ∷ 0 ∷ 0 ∷ 0 ∷ []; answer = Refused 7 1 } ∷
+    -- a call at the tick of its client's last return
+    record { log = 1 ∷ 0 ∷ 3 ∷ 7 ∷ 2 ∷ 0 ∷ 1 ∷ 0 ∷ 0 ∷ 0 ∷ 1 ∷ 7 ∷ 5 ∷ 0 ∷ 1 ∷ 0 ∷ 0 ∷ 0 ∷ 1 ∷ 7 ∷ 2 ∷ 0 ∷ 1 ∷ 0 ∷ 0 ∷ 0 ∷ 1 ∷ []; answer = Refused 31 2 } ∷
+    -- before a value added a second time
+    record { log = 1 ∷ 0 ∷ 3 ∷ 11 ∷ 1 ∷ 0 ∷ 1 ∷ 0 ∷ 0 ∷ 0 ∷ 1 ∷ 0 ∷ 0 ∷ 0 ∷ 7 ∷ 7 ∷ 3 ∷ 0 ∷ 1 ∷ 0 ∷ 0 ∷ 0 ∷ 1 ∷ 11 ∷ 1 ∷ 0 ∷ 1 ∷ 0 ∷ 0 ∷ 0 ∷ 1 ∷ 0 ∷ 0 ∷ 0 ∷ 7 ∷ []; answer = Refused 31 2 } ∷
+    -- another client's return of that tick is no matter, nor is a later one of the client's own
+    record { log = 1 ∷ 0 ∷ 6 ∷ 7 ∷ 2 ∷ 0 ∷ 1 ∷ 0 ∷ 0 ∷ 0 ∷ 1 ∷ 7 ∷ 5 ∷ 0 ∷ 1 ∷ 0 ∷ 0 ∷ 0 ∷ 1 ∷ 7 ∷ 2 ∷ 0 ∷ 2 ∷ 0 ∷ 0 ∷ 0 ∷ 1 ∷ 7 ∷ 5 ∷ 0 ∷ 2 ∷ 0 ∷ 0 ∷ 0 ∷ 1 ∷ 7 ∷ 2 ∷ 0 ∷ 1 ∷ 0 ∷ 0 ∷ 0 ∷ 2 ∷ 7 ∷ 5 ∷ 0 ∷ 1 ∷ 0 ∷ 0 ∷ 0 ∷ 2 ∷ []; answer = Readable 6 3 } ∷
     -- return of the other operation
     record { log = 1 ∷ 0 ∷ 2 ∷ 7 ∷ 2 ∷ 0 ∷ 1 ∷ 0 ∷ 0 ∷ 0 ∷ 1 ∷ 7 ∷ 3 ∷ 0 ∷ 1 ∷ 0 ∷ 0 ∷ 0 ∷ 1 ∷ []; answer = Refused 8 1 } ∷
     -- two removes without return: the earlier call
@@ -74,8 +80,8 @@ examples =
 
 -- every example is answered as it should be
 pub examples-hold : Hold readLog examples
-unfolding bigEndian lengthOf eventOf frameAt decodeAt ofOthers pendingCalls pendingKind earliestRemove addedValues isIn eventFault fault scan readPartial operations
-examples-hold = (refl, (refl, (refl, (refl, (refl, (refl, (refl, (refl, (refl, (refl, (refl, (refl, (refl, (refl, (refl, (refl, (refl, (refl, (refl, (refl, (refl, (refl, (refl, tt)))))))))))))))))))))))
+unfolding bigEndian lengthOf eventOf frameAt decodeAt pendingKind returnedAt pendingRemove addedValues isIn eventFault fault scan readPartial operations
+examples-hold = (refl, (refl, (refl, (refl, (refl, (refl, (refl, (refl, (refl, (refl, (refl, (refl, (refl, (refl, (refl, (refl, (refl, (refl, (refl, (refl, (refl, (refl, (refl, (refl, (refl, (refl, tt))))))))))))))))))))))))))
 
 abbrev pub partial-examples : List Example
 partial-examples =
@@ -87,7 +93,7 @@ partial-examples =
 
 -- and so is a log but for 10
 pub partial-examples-hold : Hold readPartial partial-examples
-unfolding bigEndian lengthOf eventOf frameAt decodeAt ofOthers pendingCalls pendingKind addedValues isIn eventFault fault scan readPartial operations
+unfolding bigEndian lengthOf eventOf frameAt decodeAt pendingKind returnedAt addedValues isIn eventFault fault scan readPartial operations
 partial-examples-hold = (refl, (refl, tt))
 
 -- a remove's return with value 0, by client 258 at tick 259

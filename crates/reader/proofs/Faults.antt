@@ -10,7 +10,7 @@ use Rattle.record.specs.Choice.{if_then_else_}
 use Rattle.record.specs.declared.record.Event.{Event}
 use Rattle.record.specs.declared.record.Event.the-variants.{CallAdd, CallRemove, ReturnAdd, ReturnRemove}
 use Rattle.record.specs.declared.record.Record.{Record}
-use Rattle.reader.specs.Log.{pendingCalls, pendingKind, addedValues, lastTick, eventFault, fault}
+use Rattle.reader.specs.Log.{isCall, pendingKind, returnedAt, addedValues, lastTick, eventFault, fault}
 use Rattle.table.specs.Table.{isIn}
 use Rattle.reader.specs.Readable.{asks}
 
@@ -18,52 +18,66 @@ pub record NoFault (past : List Record) (r : Record) : Type 0 where
   -- its tick is not below the record before
   pub tick : lastTick past ≤ r .tick
   -- the call that it asks for is pending
-  pub asked : pendingKind (pendingCalls past) (r .client) ≡ asks (r .event)
+  pub asked : pendingKind past (r .client) ≡ asks (r .event)
+  -- if it is a call, its tick is not that of its client's last return
+  pub later : isCall (r .event) ≡ 1 → returnedAt past (r .client) (r .tick) ≡ false
   -- a value that it calls to be added is a new one
   pub fresh : (v : ℕ) → r .event ≡ CallAdd v → isIn v (addedValues past) ≡ false
 
--- the parts of an event that nothing is wrong with: the pending call, and the value
-event-fine : (e : Event) (kind : ℕ) (values : List ℕ) → eventFault e kind values ≡ 0 → (kind ≡ asks e) × ((v : ℕ) → e ≡ CallAdd v → isIn v values ≡ false)
+-- the parts of an event that nothing is wrong with: the pending call, the tick and the value
+pub record Fine (e : Event) (kind : ℕ) (repeats : Bool) (values : List ℕ) : Type 0 where
+  pub asked : kind ≡ asks e
+  pub later : isCall e ≡ 1 → repeats ≡ false
+  pub fresh : (v : ℕ) → e ≡ CallAdd v → isIn v values ≡ false
+
+event-fine : (e : Event) (kind : ℕ) (repeats : Bool) (values : List ℕ) → eventFault e kind repeats values ≡ 0 → Fine e kind repeats values
 unfolding eventFault
-event-fine e kind values ok = go e ok
+event-fine e kind repeats values ok = go e ok
   where
     -- a test that refuses unless the kind is k, before a further number
     is : (k refusal further : ℕ) → (refusal ≡ 0 → ⊥) → (b : Bool) → eqb kind k ≡ b → (if not b then refusal else further) ≡ 0 → (kind ≡ k) × (further ≡ 0)
     is k refusal further n true t z = (eqb-true kind k t, z)
     is k refusal further n false t z = absurd (n z)
 
-    new : (b : Bool) → _≡_ {A = ℕ} (if b then 9 else 0) 0 → b ≡ false
-    new true z = absurd (omega arith)
-    new false z = refl
+    -- a test that refuses if something is so, before a further number
+    not-so : (refusal further : ℕ) → (refusal ≡ 0 → ⊥) → (b : Bool) → (if b then refusal else further) ≡ 0 → (b ≡ false) × (further ≡ 0)
+    not-so refusal further n true z = absurd (n z)
+    not-so refusal further n false z = (refl, z)
 
-    go : (e : Event) → eventFault e kind values ≡ 0 → (kind ≡ asks e) × ((v : ℕ) → e ≡ CallAdd v → isIn v values ≡ false)
+    go : (e : Event) → eventFault e kind repeats values ≡ 0 → Fine e kind repeats values
     go (CallAdd w) z =
-        let both = is 0 7 (if isIn w values then 9 else 0) (omega arith) (eqb kind 0) refl z in
-        (both .0, λ v e. let same : w ≡ v = cc in rw same at (new (isIn w values) (both .1)))
-    go CallRemove z = (is 0 7 0 (omega arith) (eqb kind 0) refl z .0, λ v e. let y : _≡_ {A = ℕ} 0 1 = cc in absurd (omega arith))
-    go ReturnAdd z = (is 1 8 0 (omega arith) (eqb kind 1) refl z .0, λ v e. let y : _≡_ {A = ℕ} 0 1 = cc in absurd (omega arith))
-    go (ReturnRemove x) z = (is 2 8 0 (omega arith) (eqb kind 2) refl z .0, λ v e. let y : _≡_ {A = ℕ} 0 1 = cc in absurd (omega arith))
+        let idle = is 0 7 (if repeats then 31 else if isIn w values then 9 else 0) (omega arith) (eqb kind 0) refl z in
+        let later = not-so 31 (if isIn w values then 9 else 0) (omega arith) repeats (idle .1) in
+        record {
+          asked = idle .0;
+          later = λ c. later .0;
+          fresh = λ v e. let same : w ≡ v = cc in rw same at (not-so 9 0 (omega arith) (isIn w values) (later .1) .0);
+        }
+    go CallRemove z =
+        let idle = is 0 7 (if repeats then 31 else 0) (omega arith) (eqb kind 0) refl z in
+        record { asked = idle .0; later = λ c. not-so 31 0 (omega arith) repeats (idle .1) .0; fresh = λ v e. let y : _≡_ {A = ℕ} 0 1 = cc in absurd (omega arith) }
+    go ReturnAdd z = record { asked = is 1 8 0 (omega arith) (eqb kind 1) refl z .0; later = λ c. absurd (omega arith); fresh = λ v e. let y : _≡_ {A = ℕ} 0 1 = cc in absurd (omega arith) }
+    go (ReturnRemove x) z = record { asked = is 2 8 0 (omega arith) (eqb kind 2) refl z .0; later = λ c. absurd (omega arith); fresh = λ v e. let y : _≡_ {A = ℕ} 0 1 = cc in absurd (omega arith) }
 
 pub no-fault : (past : List Record) (r : Record) → fault past r ≡ 0 → NoFault past r
 unfolding fault
 no-fault past r ok = go (ltb (r .tick) (lastTick past)) refl ok
   where
-    kind : ℕ
-    kind = pendingKind (pendingCalls past) (r .client)
-
-    go : (b : Bool) → ltb (r .tick) (lastTick past) ≡ b → (if b then 6 else eventFault (r .event) kind (addedValues past)) ≡ 0 → NoFault past r
+    go : (b : Bool) → ltb (r .tick) (lastTick past) ≡ b
+        → (if b then 6 else eventFault (r .event) (pendingKind past (r .client)) (returnedAt past (r .client) (r .tick)) (addedValues past)) ≡ 0 → NoFault past r
     go true t z = absurd (omega arith)
     go false t z =
-        let fine = event-fine (r .event) kind (addedValues past) z in
-        record { tick = ltb-false (r .tick) (lastTick past) t; asked = fine .0; fresh = fine .1 }
+        let fine = event-fine (r .event) _ _ (addedValues past) z in
+        record { tick = ltb-false (r .tick) (lastTick past) t; asked = fine .asked; later = fine .later; fresh = fine .fresh }
 
 -- and back: a record that has these parts has no fault
 pub fault-none : {past : List Record} {r : Record} → NoFault past r → fault past r ≡ 0
 unfolding fault eventFault
-fault-none {past} {r} fine = rw (le-ltb (r .tick) (lastTick past) (fine .tick), fine .asked) (go (r .event) (fine .fresh))
+fault-none {past} {r} fine = rw (le-ltb (r .tick) (lastTick past) (fine .tick), fine .asked) (go (r .event) (fine .later) (fine .fresh))
   where
-    go : (e : Event) → ((v : ℕ) → e ≡ CallAdd v → isIn v (addedValues past) ≡ false) → eventFault e (asks e) (addedValues past) ≡ 0
-    go (CallAdd v) new = rw (new v refl) refl
-    go CallRemove new = refl
-    go ReturnAdd new = refl
-    go (ReturnRemove x) new = refl
+    go : (e : Event) → (isCall e ≡ 1 → returnedAt past (r .client) (r .tick) ≡ false) → ((v : ℕ) → e ≡ CallAdd v → isIn v (addedValues past) ≡ false)
+        → eventFault e (asks e) (returnedAt past (r .client) (r .tick)) (addedValues past) ≡ 0
+    go (CallAdd v) later new = rw (later refl, new v refl) refl
+    go CallRemove later new = rw (later refl) refl
+    go ReturnAdd later new = refl
+    go (ReturnRemove x) later new = refl

@@ -4,14 +4,13 @@ use native.Mathlib.Omega.{arith}
 use mathlib.Core.Path.{_≡_, refl}
 use mathlib.Core.Bool.{Bool, true, false}
 use mathlib.Core.Logic.{_⊎_, inl, inr}
-use mathlib.Core.List.{List, [], _++_, reverse-reverse}
+use mathlib.Core.List.{List, [], _++_}
 use lib.ListN.{length, length-reverse}
 use lib.Dec.{ltb}
 use borrow.Author.Tests.{ltb-false}
 use Rattle.record.specs.Choice.{if_then_else_}
-use Rattle.record.specs.declared.record.Event.the-variants.{CallRemove}
 use Rattle.record.specs.declared.record.Record.{Record}
-use Rattle.reader.specs.Log.{maxRecords, encodeLog, Reading, readable, refused, pendingCalls, earliestRemove, pendingRemove, readPartial, complete, readLog, operations, checked}
+use Rattle.reader.specs.Log.{maxRecords, encodeLog, Reading, readable, refused, pendingRemove, readPartial, complete, readLog, operations, checked}
 use Rattle.reader.specs.Readable.{Within, recordOf, asks, Next, Regular, PartialLog, ReadableLog, Writable}
 use Rattle.reader.specs.declared.log.Checked.the-variants.{Readable, Refused}
 use Rattle.reader.proofs.Bounds.{partial-within, log-within}
@@ -19,7 +18,7 @@ use Rattle.reader.proofs.Keeping.{operations-few}
 use Rattle.reader.proofs.Scanning.{operations-append}
 use Rattle.reader.proofs.Encoding.{log-encodes}
 use Rattle.reader.proofs.Bytes.{count-law, few-law, stands-law, fills-law, short-law, bytes-law, writable-law}
-use Rattle.reader.proofs.Clients.{ticks-law, first-law, next-law, once-law, follows-law, precedes-law, returned-law}
+use Rattle.reader.proofs.Records.{ticks-law, first-law, next-law, rises-law, once-law, follows-law, precedes-law, returned-law}
 use Rattle.reader.proofs.Run.{Admits, none, Read, reads, run-admits}
 -- The records of a readable log of bytes are orderly, and a log of orderly records is read as them.
 pub use Rattle.reader.proofs.Orderly.{readable-orderly, orderly-readable}
@@ -35,6 +34,7 @@ read-regular {log} {records} read = record {
   ticks = rw (read .are) (λ i j l h. ticks-law (read .all) sound i j l (omega (arith, length-reverse (read .all))));
   first = rw (read .are) (λ j h. first-law (read .all) sound j (omega (arith, length-reverse (read .all))));
   next = rw (read .are) (next-law (read .all) sound);
+  rises = rw (read .are) (rises-law (read .all) sound);
   once = rw (read .are) (λ i j v l h. once-law (read .all) sound i j v l (omega (arith, length-reverse (read .all))));
 }
   where
@@ -52,13 +52,6 @@ read-partial read = record {
   writable = writable-law read;
   regular = read-regular read;
 }
-
-read-returned : {log : List ℕ} {records : List Record} → Read log records → length records ≤ pendingRemove records
-    → (i : ℕ) → i < length records → recordOf records i .event ≡ CallRemove → (j : ℕ) × Next records i j
-read-returned {records = records} read none-pending =
-    let all-returned : length (read .all) ≤ earliestRemove (pendingCalls (read .all)) (length (read .all)) =
-    rw (reverse-reverse (read .all), length-reverse (read .all)) at (rw (read .are) at none-pending) in
-    rw (read .are) (λ i h. returned-law (read .all) all-returned i (omega (arith, length-reverse (read .all))))
 
 -- a log that is readable but for 10
 pub partial-log : (log : List ℕ) (records : List Record) → readPartial log ≡ readable records → PartialLog log records
@@ -79,7 +72,7 @@ pub readable-log : (log : List ℕ) (records : List Record) → readLog log ≡ 
 readable-log log records e =
     let whole = completed (readPartial log) records e in
     let read : Read log records = reads log records (whole .0) in
-    record { partial = read-partial read; returned = read-returned read (whole .1) }
+    record { partial = read-partial read; returned = returned-law records (whole .1) }
 
 -- a readable log is one that is readable but for 10
 pub readable-is-partial : (log : List ℕ) (records : List Record) → readLog log ≡ readable records → readPartial log ≡ readable records

@@ -1,27 +1,27 @@
 -- Records are those of a readable log exactly if they are orderly: those of a readable log are, and a log of orderly records is read as them.
 use Prim.Native.Nat.{ℕ, zero, suc, _≤_, _<_}
 use native.Mathlib.Omega.{arith}
+use native.Mathlib.Decide.{decLt}
 use mathlib.Core.Path.{_≡_, refl, sym, ap, _∙_}
 use mathlib.Core.Bool.{false}
 use mathlib.Core.Logic.{_⊎_, inl, inr}
-use mathlib.Core.List.{List, [], _∷_, _++_, reverse, reverse-cons, reverse-reverse, append-assoc}
+use mathlib.Core.List.{List, [], _∷_, _++_, reverse, reverse-cons, append-assoc}
 use lib.ListN.{length, length-append, length-reverse, List·getD-append}
 use lib.Seq.{getD-at}
-use borrow.Author.Tests.{le-ltb}
+use borrow.Author.Tests.{le-ltb, ne-eqb}
 use Rattle.record.specs.Number.{Bytes}
 use Rattle.record.specs.Record.{Small}
 use Rattle.record.specs.declared.record.Event.{Event}
 use Rattle.record.specs.declared.record.Event.the-variants.{CallAdd, CallRemove, ReturnAdd, ReturnRemove}
 use Rattle.record.specs.declared.record.Record.{Record}
-use Rattle.reader.specs.Log.{encodeLog, readable, pendingCalls, pendingKind, pendingRemove, addedValues, lastTick, fault, complete, readLog}
+use Rattle.reader.specs.Log.{isCall, leaves, encodeLog, readable, pendingKind, returnedAt, pendingRemove, addedValues, lastTick, fault, complete, readLog}
 use Rattle.table.specs.Table.{isIn}
-use Rattle.reader.specs.Readable.{recordOf, asks, leaves, Next, Writable, none, more, ReadableLog, Orderly}
-use Rattle.reader.proofs.Calls.{pending-sound, earliest-absent}
-use Rattle.reader.proofs.Clients.{nth, last-tick, kind-latest, kind-absent, value-absent, precedes-law}
+use Rattle.reader.specs.Readable.{recordOf, asks, Next, Writable, none, more, ReadableLog, Orderly}
+use Rattle.reader.proofs.Events.{turns-change}
+use Rattle.reader.proofs.Pending.{Last, pending-within, pending-open}
+use Rattle.reader.proofs.Records.{nth, last-tick, kind-latest, kind-absent, returned-latest, returned-absent, value-absent, precedes-law}
 use Rattle.reader.proofs.Encoding.{log-encodes}
 use Rattle.reader.proofs.Faults.{fault-none}
-use Rattle.reader.specs.Search.{None}
-use Rattle.reader.proofs.Search.{Highest, highest, decEq}
 
 -- the fields of each record that can be written fit
 writable-small : {past records : List Record} → Writable past records → (i : ℕ) → i < length records → Small (recordOf records i)
@@ -61,18 +61,40 @@ module _ (past rest : List Record) (r : Record) (orderly : Orderly (reverse past
   tick-kept : lastTick past ≤ r .tick
   tick-kept = last-tick past (r .tick) (λ i h. rw (before i h, here) at (orderly .regular .ticks i (length past) (omega arith) there))
 
+  -- the latest record of its client among those, if there is one
+  latest : {i : ℕ} → Next all i (length past) → Last (reverse past) i
+  latest {i} next k a b q =
+      let h : k < length past = omega (arith, length-reverse past) in
+      next .between k a h (rw (before k h, before i (next .later)) q)
+
+  absent : ((k : ℕ) → k < length past → recordOf all k .client ≡ recordOf all (length past) .client → ⊥) → (k : ℕ) → k < length past → nth past k .client ≡ r .client → ⊥
+  absent alone k h q = alone k h (rw (before k h, here) q)
+
   -- the call that it asks for is pending
-  call-pending : pendingKind (pendingCalls past) (r .client) ≡ asks (r .event)
+  call-pending : pendingKind past (r .client) ≡ asks (r .event)
   call-pending = go (precedes-law all (length past) there)
     where
-      go : ((i : ℕ) × Next all i (length past)) ⊎ ((k : ℕ) → k < length past → recordOf all k .client ≡ recordOf all (length past) .client → ⊥) → pendingKind (pendingCalls past) (r .client) ≡ asks (r .event)
+      go : ((i : ℕ) × Next all i (length past)) ⊎ ((k : ℕ) → k < length past → recordOf all k .client ≡ recordOf all (length past) .client → ⊥) → pendingKind past (r .client) ≡ asks (r .event)
       go (inl (i, next)) =
           let was : recordOf all i ≡ nth past i = before i (next .later) in
           let own : r .client ≡ nth past i .client = rw (here, was) at (next .same) in
           let asked : asks (r .event) ≡ leaves (nth past i .event) = rw (here, was) at (orderly .regular .next i (length past) next) in
-          let latest = kind-latest past i (next .later) (λ k a b q. next .between k a b (rw (before k b, was) q)) in
-          ap (pendingKind (pendingCalls past)) own ∙ latest ∙ sym asked
-      go (inr alone) = kind-absent past (r .client) (λ k h q. alone k h (rw (before k h, here) q)) ∙ sym (rw here at (orderly .regular .first (length past) there alone))
+          ap (pendingKind past) own ∙ kind-latest past i (next .later) (latest next) ∙ sym asked
+      go (inr alone) = kind-absent past (r .client) (absent alone) ∙ sym (rw here at (orderly .regular .first (length past) there alone))
+
+  -- if it is a call, its client has not returned at its tick
+  tick-later : isCall (r .event) ≡ 1 → returnedAt past (r .client) (r .tick) ≡ false
+  tick-later c = go (precedes-law all (length past) there)
+    where
+      go : ((i : ℕ) × Next all i (length past)) ⊎ ((k : ℕ) → k < length past → recordOf all k .client ≡ recordOf all (length past) .client → ⊥) → returnedAt past (r .client) (r .tick) ≡ false
+      go (inl (i, next)) =
+          let was : recordOf all i ≡ nth past i = before i (next .later) in
+          let own : r .client ≡ nth past i .client = rw (here, was) at (next .same) in
+          let asked : asks (r .event) ≡ leaves (nth past i .event) = rw (here, was) at (orderly .regular .next i (length past) next) in
+          let return : isCall (nth past i .event) ≡ 0 = omega (arith, turns-change (nth past i .event) (r .event) asked) in
+          let lower : nth past i .tick < r .tick = rw (here, was) at (orderly .regular .rises i (length past) next (rw here c)) in
+          ap (λ client. returnedAt past client (r .tick)) own ∙ returned-latest past i (r .tick) (next .later) (latest next) return ∙ ne-eqb (nth past i .tick) (r .tick) (λ e. omega arith)
+      go (inr alone) = returned-absent past (r .client) (r .tick) (absent alone)
 
   -- a value that it calls to be added is a new one
   value-new : (v : ℕ) → r .event ≡ CallAdd v → isIn v (addedValues past) ≡ false
@@ -80,7 +102,7 @@ module _ (past rest : List Record) (r : Record) (orderly : Orderly (reverse past
 
   -- so nothing is wrong with it
   fault-free : fault past r ≡ 0
-  fault-free = fault-none (record { tick = tick-kept; asked = call-pending; fresh = value-new })
+  fault-free = fault-none (record { tick = tick-kept; asked = call-pending; later = tick-later; fresh = value-new })
 
 -- so orderly records can be written
 orderly-writable : (past records : List Record) → Orderly (reverse past ++ records) → Writable past records
@@ -95,22 +117,16 @@ leaves-remove CallRemove l = refl
 leaves-remove ReturnAdd l = absurd (omega arith)
 leaves-remove (ReturnRemove x) l = absurd (omega arith)
 
--- behind orderly records no remove is pending
-no-remove-pending : (past : List Record) → Orderly (reverse past) → (client : ℕ) → pendingKind (pendingCalls past) client ≡ 2 → ⊥
-no-remove-pending past orderly client pending = go (highest (λ k. nth past k .client ≡ client) (λ k. decEq (nth past k .client) client) (length past))
-  where
-    go : Highest (λ k. nth past k .client ≡ client) (length past) ⊎ None (λ k. nth past k .client ≡ client) (length past) → ⊥
-    go (inl s) =
-        let latest = kind-latest past (s .at) (s .below) (λ k a b q. s .none-higher k a b (q ∙ s .holds)) in
-        let left : leaves (nth past (s .at) .event) ≡ 2 = sym latest ∙ ap (pendingKind (pendingCalls past)) (s .holds) ∙ pending in
-        let (j, next) = orderly .returned (s .at) (omega (arith, s .below, length-reverse past)) (leaves-remove _ left) in
-        s .none-higher j (next .later) (omega (arith, next .there, length-reverse past)) (next .same ∙ s .holds)
-    go (inr absent) = omega (arith, kind-absent past client absent)
-
 -- so the test for 10 finds none
 none-pending : (records : List Record) → Orderly records → pendingRemove records ≡ length records
-none-pending records orderly =
-    earliest-absent (pendingCalls (reverse records)) (length records) (pending-sound (reverse records)) (no-remove-pending (reverse records) (rw (reverse-reverse records) orderly))
+none-pending records orderly = go (decLt (pendingRemove records) (length records))
+  where
+    go : Dec (pendingRemove records < length records) → pendingRemove records ≡ length records
+    go (yes l) =
+        let open-remove = pending-open records l in
+        let (j, next) = orderly .returned (pendingRemove records) l (leaves-remove _ (open-remove .remove)) in
+        absurd (open-remove .last j (next .later) (next .there) (next .same))
+    go (no l) = omega (arith, pending-within records)
 
 -- a log of orderly records is read as them
 pub orderly-readable : (records : List Record) → Orderly records → readLog (encodeLog records) ≡ readable records

@@ -3,7 +3,7 @@ use Prim.Native.Nat.{ℕ, zero, suc, _+_, _-_, _≤_, _<_}
 use native.Mathlib.Omega.{arith}
 use mathlib.Core.Path.{_≡_, refl, sym, ap, _∙_}
 use mathlib.Core.List.{List, [], _∷_, _++_, reverse, reverse-cons, reverse-reverse}
-use lib.ListN.{length, getD, take, length-reverse}
+use lib.ListN.{length, getD, length-reverse, length-replicate}
 use lib.Dec.{ltb, eqb}
 use mathlib.Core.Bool.{Bool, true, false, not}
 use Rattle.record.specs.Choice.{if_then_else_}
@@ -11,10 +11,12 @@ use borrow.Author.Tests.{lt-ltb, le-ltb, lt-leb, le-leb, eq-eqb, ne-eqb, ltb-fal
 use Rattle.record.specs.Record.{decodeAt}
 use Rattle.record.specs.declared.record.Record.{Record}
 use Rattle.record.specs.declared.record.Decoded.the-variants.{Found, Malformed}
-use Rattle.reader.specs.Log.{Reading, readable, refused, logVersion, headerLength, maxRecords, countField, fault, scan, readPartial, operations, pendingCalls, earliestRemove, pendingRemove, complete, checked}
-use Rattle.reader.specs.Tables.{faultIn, earliestCode, Room, Kept, Admitted, Goes, Stepped, AllKept, Passed, through, stopped, FaultBehind, headerOf, surveyed}
+use Rattle.reader.specs.Log.{Reading, readable, refused, logVersion, headerLength, maxRecords, countField, fault, scan, readPartial, operations, pendingRemove, complete, checked}
+use Rattle.reader.specs.Tables.{Tables, tables, New, faultIn, Room, Kept, Stands, Coded, LeastRemove, Admitted, Goes, Stepped, AllKept, Passed, through, stopped, FaultBehind, headerOf, surveyed}
 use Rattle.table.specs.Table.{Fits as InUse}
-use Rattle.map.specs.Map.{Linked}
+use Rattle.table.proofs.Lists.{zeros}
+use Rattle.map.proofs.Laws.{newKeys, newChains, newTable, new-linked, new-narrow}
+use Rattle.reader.specs.declared.clients.Standing.{Standing}
 use Rattle.reader.specs.declared.scan.Progress.{Progress}
 use Rattle.reader.specs.declared.scan.Step.{Step}
 use Rattle.reader.specs.declared.scan.Step.the-variants.{Next, Stop}
@@ -28,8 +30,7 @@ use Rattle.reader.specs.declared.header.Header.{Header}
 use Rattle.reader.specs.declared.header.Header.the-variants.{Count, Wrong}
 use Rattle.reader.specs.declared.log.Checked.{Checked}
 use Rattle.reader.specs.declared.log.Checked.the-variants.{Readable, Refused}
-use Rattle.reader.proofs.Keeping.{fault-found, has-room, keeps-none}
-use Rattle.reader.proofs.Calls.{pending-sound, pending-few, earliest-found}
+use Rattle.reader.proofs.Keeping.{fault-found, has-room, keeps-none, least-found}
 
 pub operations-append : (rs ss : List Record) → operations (rs ++ ss) ≡ operations rs + operations ss
 unfolding operations
@@ -42,12 +43,16 @@ unfolding operations
 operations-reverse [] = refl
 operations-reverse (r ∷ rs) = rw (reverse-cons, operations-append) (omega (arith, operations-reverse rs))
 
+-- nothing has been entered into new arrays
+pub all-new : New (tables newTable newTable newTable newTable newKeys newChains)
+all-new = record { met = new-narrow; codes-sized = length-replicate {A = ℕ} maxRecords 0; codes-none = zeros maxRecords; added = new-linked }
+
 -- After i of `count` records: the tables hold what is kept of them, and the rest of the scan is the whole.
-pub record Scanned (log : List ℕ) (count : ℕ) (clients codes values chains : List ℕ) (p : Progress) (i : ℕ) : Type 0 where
+pub record Scanned (log : List ℕ) (count : ℕ) (t : Tables) (p : Progress) (i : ℕ) : Type 0 where
   pub below : i ≤ count
   pub past : List Record
   pub counted : length past ≡ i
-  pub kept : Kept past p clients codes values chains
+  pub kept : Kept past p t
   pub rest : scan log count headerLength [] ≡ scan log (count - i) (p .at) past
 
 module _ (log : List ℕ) (past : List Record) (at : ℕ) where
@@ -64,50 +69,50 @@ module _ (log : List ℕ) (past : List Record) (at : ℕ) where
   scan-on {r} e z left = rw (e, eq-eqb (fault past r) 0 z) refl
 
 -- one record read: it is malformed, something is wrong with it, or it is kept
-module _ {log : List ℕ} {index : ℕ} {p : Progress} {clients codes values chains clients' codes' values' chains' : List ℕ} where
-  pub stops-malformed : {number : ℕ} → decodeAt log (p .at) ≡ Malformed number → Stepped log index p clients codes values chains (Stop number) clients' codes' values' chains'
+module _ {log : List ℕ} {index : ℕ} {p : Progress} {t t' : Tables} where
+  pub stops-malformed : {number : ℕ} → decodeAt log (p .at) ≡ Malformed number → Stepped log index p t (Stop number) t'
   stops-malformed e = record { goes = λ past k len. scan-malformed log past (p .at) e }
 
-  pub stops-fault : {r : Record} {next f : ℕ} → decodeAt log (p .at) ≡ Found r next → f ≡ faultIn r p clients codes values → (f ≡ 0 → ⊥)
-      → Stepped log index p clients codes values chains (Stop f) clients' codes' values' chains'
-  stops-fault {r} e is n = record {
+  pub stops-fault : {r : Record} {next f : ℕ} {s : Standing} → decodeAt log (p .at) ≡ Found r next → Stands r index p (t .clients) (t .codes) s → f ≡ faultIn r p s (t .values) → (f ≡ 0 → ⊥)
+      → Stepped log index p t (Stop f) t'
+  stops-fault e stands is n = record {
     goes = λ past k len left.
-        scan-fault log past (p .at) e (λ z. n (is ∙ (fault-found k r ∙ z))) left ∙ ap (λ (f : ℕ). refused f (length past)) (sym (is ∙ fault-found k r));
+        let same = is ∙ fault-found k len stands in
+        scan-fault log past (p .at) e (λ z. n (same ∙ z)) left ∙ ap (λ (f : ℕ). refused f (length past)) (sym same);
   }
 
-  pub goes-on : {r : Record} {next f : ℕ} {q : Progress} → decodeAt log (p .at) ≡ Found r next → f ≡ faultIn r p clients codes values → f ≡ 0
-      → Admitted r next index p clients codes values chains q clients' codes' values' chains' → Stepped log index p clients codes values chains (Next q) clients' codes' values' chains'
-  goes-on {r} {next} e is z a = record {
+  pub goes-on : {r : Record} {next f : ℕ} {s : Standing} {q : Progress} → decodeAt log (p .at) ≡ Found r next → Stands r index p (t .clients) (t .codes) s → f ≡ faultIn r p s (t .values) → f ≡ 0
+      → Admitted r next index p t q t' → Stepped log index p t (Next q) t'
+  goes-on {r} e stands is z a = record {
     goes = λ past k len.
-        let ok = sym (is ∙ fault-found k r) ∙ z in
+        let ok = sym (is ∙ fault-found k len stands) ∙ z in
         (r, a .kept past k len ok, λ left. scan-on log past (p .at) e ok left ∙ ap (λ (at : ℕ). scan log left at (r ∷ past)) (sym (a .at)));
   }
 
 -- the loop over the records: it starts, it stops at a refusal, it goes on, it meets left bytes, it ends
-pub loop-starts : (log : List ℕ) (count : ℕ) (clients codes values chains : List ℕ) → length clients ≡ maxRecords → length codes ≡ maxRecords → Linked values chains 0
-    → Scanned log count clients codes values chains (record { at = headerLength; tick = 0; pending = 0; added = 0; operations = 0 }) 0
-loop-starts log count clients codes values chains lc ld linked = record {
+pub loop-starts : (log : List ℕ) (count : ℕ) {t : Tables} → New t → Scanned log count t (record { at = headerLength; tick = 0; start = 0; clients = 0; added = 0; operations = 0 }) 0
+loop-starts log count new = record {
   below = omega arith;
   past = [];
   counted = refl;
-  kept = keeps-none headerLength clients codes values chains lc ld linked;
+  kept = keeps-none headerLength new;
   rest = ap (λ (n : ℕ). scan log n headerLength []) (omega arith);
 }
 
-module _ {log : List ℕ} {count : ℕ} {clients codes values chains : List ℕ} {p : Progress} {i : ℕ} (s : Scanned log count clients codes values chains p i) where
+module _ {log : List ℕ} {count : ℕ} {t : Tables} {p : Progress} {i : ℕ} (s : Scanned log count t p i) where
   one-more : i < count → count - i ≡ suc (count - (i + 1))
   one-more h = omega arith
 
-  pub loop-stops : {clients' codes' values' chains' : List ℕ} {step : Step} {number : ℕ} → i < count → Stepped log i p clients codes values chains step clients' codes' values' chains' → step ≡ Stop number
+  pub loop-stops : {t' : Tables} {step : Step} {number : ℕ} → i < count → Stepped log i p t step t' → step ≡ Stop number
       → scan log count headerLength [] ≡ refused number i
-  loop-stops {clients'} {codes'} {values'} {chains'} {number = number} h g e =
-      let goes : Goes log (s .past) (p .at) clients' codes' values' chains' (Stop number) = rw e at (g .goes (s .past) (s .kept) (s .counted)) in
+  loop-stops {t'} {number = number} h g e =
+      let goes : Goes log (s .past) (p .at) t' (Stop number) = rw e at (g .goes (s .past) (s .kept) (s .counted)) in
       rw (s .rest, one-more h, goes (count - (i + 1)), s .counted) refl
 
-  pub loop-goes : {clients' codes' values' chains' : List ℕ} {step : Step} {q : Progress} → i < count → Stepped log i p clients codes values chains step clients' codes' values' chains' → step ≡ Next q
-      → Scanned log count clients' codes' values' chains' q (i + 1)
-  loop-goes {clients'} {codes'} {values'} {chains'} {q = q} h g e =
-      let goes : Goes log (s .past) (p .at) clients' codes' values' chains' (Next q) = rw e at (g .goes (s .past) (s .kept) (s .counted)) in
+  pub loop-goes : {t' : Tables} {step : Step} {q : Progress} → i < count → Stepped log i p t step t' → step ≡ Next q
+      → Scanned log count t' q (i + 1)
+  loop-goes {t'} {q = q} h g e =
+      let goes : Goes log (s .past) (p .at) t' (Next q) = rw e at (g .goes (s .past) (s .kept) (s .counted)) in
       record {
         below = omega arith;
         past = goes .0 ∷ s .past;
@@ -116,7 +121,7 @@ module _ {log : List ℕ} {count : ℕ} {clients codes values chains : List ℕ}
         rest = s .rest ∙ (ap (λ (n : ℕ). scan log n (p .at) (s .past)) (one-more h) ∙ goes .2 (count - (i + 1)));
       }
 
-  pub loop-has-room : i < maxRecords → Room p clients codes values chains
+  pub loop-has-room : i < maxRecords → Room p t
   loop-has-room h = has-room (s .kept) (omega (arith, s .counted))
 
   ends : count ≤ i → scan log count headerLength [] ≡ scan log zero (p .at) (s .past)
@@ -128,61 +133,60 @@ module _ {log : List ℕ} {count : ℕ} {clients codes values chains : List ℕ}
       let all : length (s .past) ≡ count = omega (arith, s .counted, s .below) in
       rw (ends h, lt-ltb (p .at) (length log) more, all) refl
 
-  pub loop-ends : count ≤ i → length log ≤ p .at → AllKept log count p clients codes values chains
+  pub loop-ends : count ≤ i → length log ≤ p .at → AllKept log count p t
   unfolding scan
   loop-ends h none = record { past = s .past; counted = omega (arith, s .counted, s .below); kept = s .kept; reads = rw (ends h, le-ltb (p .at) (length log) none) refl }
 
 -- bytes that are handed in as one record: they are none, or something is wrong with what they are, or nothing
-module _ {bytes : List ℕ} {p : Progress} {clients codes values chains : List ℕ} where
-  pub behind-other : (length bytes ≡ getD bytes 0 0 + 1 → ⊥) → FaultBehind bytes p clients codes values chains 1
+module _ {bytes : List ℕ} {index : ℕ} {p : Progress} {t : Tables} where
+  pub behind-other : (length bytes ≡ getD bytes 0 0 + 1 → ⊥) → FaultBehind bytes index p t 1
   unfolding faultBehind
-  behind-other n = record { found = λ past kept. rw (ne-eqb (length bytes) (getD bytes 0 0 + 1) n) refl }
+  behind-other n = record { found = λ past kept len. rw (ne-eqb (length bytes) (getD bytes 0 0 + 1) n) refl }
 
   module _ (one : length bytes ≡ getD bytes 0 0 + 1) where
-    pub behind-malformed : {number : ℕ} → decodeAt bytes 0 ≡ Malformed number → FaultBehind bytes p clients codes values chains number
+    pub behind-malformed : {number : ℕ} → decodeAt bytes 0 ≡ Malformed number → FaultBehind bytes index p t number
     unfolding faultBehind
-    behind-malformed e = record { found = λ past kept. rw (eq-eqb (length bytes) (getD bytes 0 0 + 1) one, e) refl }
+    behind-malformed e = record { found = λ past kept len. rw (eq-eqb (length bytes) (getD bytes 0 0 + 1) one, e) refl }
 
-    pub behind-fault : {r : Record} {next f : ℕ} → decodeAt bytes 0 ≡ Found r next → f ≡ faultIn r p clients codes values → FaultBehind bytes p clients codes values chains f
+    pub behind-fault : {r : Record} {next f : ℕ} {s : Standing} → decodeAt bytes 0 ≡ Found r next → Stands r index p (t .clients) (t .codes) s → f ≡ faultIn r p s (t .values) → FaultBehind bytes index p t f
     unfolding faultBehind
-    behind-fault {r} e is = record { found = λ past kept. rw (eq-eqb (length bytes) (getD bytes 0 0 + 1) one, e) (is ∙ fault-found kept r) }
+    behind-fault {r} e stands is = record { found = λ past kept len. rw (eq-eqb (length bytes) (getD bytes 0 0 + 1) one, e) (is ∙ fault-found kept len stands) }
 
 -- the outcome of reading all records, by its case
-pub passed-all : {log : List ℕ} {count : ℕ} {r : Pass} {p : Progress} {clients codes values chains : List ℕ} → Passed log count r clients codes values chains → r ≡ Through p → AllKept log count p clients codes values chains
-passed-all {log} {count} {p = p} {clients} {codes} {values} {chains} passed e = go (rw e at passed)
+pub passed-all : {log : List ℕ} {count : ℕ} {r : Pass} {p : Progress} {t : Tables} → Passed log count r t → r ≡ Through p → AllKept log count p t
+passed-all {log} {count} {p = p} {t} passed e = go (rw e at passed)
   where
-    go : Passed log count (Through p) clients codes values chains → AllKept log count p clients codes values chains
+    go : Passed log count (Through p) t → AllKept log count p t
     go (through all) = all
 
-pub passed-not : {log : List ℕ} {count : ℕ} {r : Pass} {number index : ℕ} {clients codes values chains : List ℕ} → Passed log count r clients codes values chains → r ≡ Stopped number index → scan log count headerLength [] ≡ refused number index
-passed-not {log} {count} {number = number} {index} {clients} {codes} {values} {chains} passed e = go (rw e at passed)
+pub passed-not : {log : List ℕ} {count : ℕ} {r : Pass} {number index : ℕ} {t : Tables} → Passed log count r t → r ≡ Stopped number index → scan log count headerLength [] ≡ refused number index
+passed-not {log} {count} {number = number} {index} {t} passed e = go (rw e at passed)
   where
-    go : Passed log count (Stopped number index) clients codes values chains → scan log count headerLength [] ≡ refused number index
+    go : Passed log count (Stopped number index) t → scan log count headerLength [] ≡ refused number index
     go (stopped refusal) = refusal
 
 -- all records have been read
-module _ {log : List ℕ} {count : ℕ} {p : Progress} {clients codes values chains : List ℕ} (all : AllKept log count p clients codes values chains) where
-  pub all-fit : count ≤ maxRecords → InUse (p .pending) codes
-  all-fit h = record { within = omega (arith, all .counted, all .kept .pending .counted, pending-few (all .past)); sized = all .kept .pending .codes-sized }
+module _ {log : List ℕ} {count : ℕ} {p : Progress} {t : Tables} (all : AllKept log count p t) where
+  pub all-fit : count ≤ maxRecords → InUse (p .clients) (t .codes) × Coded (p .clients) (t .codes)
+  all-fit h = let k = all .kept .clients in (record { within = omega (arith, all .counted, k .few); sized = k .codes-sized }, k .coded)
 
-  pub all-have-room : count < maxRecords → Room p clients codes values chains
+  pub all-have-room : count < maxRecords → Room p t
   all-have-room h = has-room (all .kept) (omega (arith, all .counted))
 
-  pub all-surveyed : {least : ℕ} → least ≡ earliestCode (take (p .pending) codes) count → Whole count (p .operations) least ≡ surveyed (scan log count headerLength [])
-  all-surveyed {least} e =
+  pub all-surveyed : {least : ℕ} → LeastRemove (t .codes) (p .clients) count least → Whole count (p .operations) least ≡ surveyed (scan log count headerLength [])
+  all-surveyed {least} found =
       let counted : length (reverse (all .past)) ≡ count = omega (arith, length-reverse (all .past), all .counted) in
-      let found : earliestRemove (pendingCalls (all .past)) count ≡ least =
-      sym (earliest-found (pendingCalls (all .past)) count (pending-sound (all .past))) ∙ (ap (λ (cs : List ℕ). earliestCode cs count) (sym (all .kept .pending .codes-are)) ∙ sym e) in
-      rw (all .reads, reverse-reverse (all .past), counted, found, operations-reverse (all .past), all .kept .calls) refl
+      let earliest : pendingRemove (reverse (all .past)) ≡ least = least-found (all .kept .clients) (rw (← (all .counted)) at found) in
+      rw (all .reads, counted, earliest, operations-reverse (all .past), all .kept .calls) refl
 
   -- bytes that are handed in behind them: there are too many records already, something is wrong, or they fit
   module _ (bytes : List ℕ) where
     pub extends-full : maxRecords ≤ count → Full ≡ extended (scan log count headerLength []) bytes
     extends-full h = rw (all .reads, length-reverse (all .past), all .counted, le-leb maxRecords count h) refl
 
-    module _ {number : ℕ} (behind : FaultBehind bytes p clients codes values chains number) (h : count < maxRecords) where
+    module _ {number : ℕ} (behind : FaultBehind bytes count p t number) (h : count < maxRecords) where
       is : faultBehind (all .past) bytes ≡ number
-      is = sym (behind .found (all .past) (all .kept))
+      is = sym (behind .found (all .past) (all .kept) (all .counted))
 
       pub extends-faulty : (number ≡ 0 → ⊥) → Faulty number count ≡ extended (scan log count headerLength []) bytes
       extends-faulty n = rw (all .reads, length-reverse (all .past), all .counted, reverse-reverse (all .past), lt-leb maxRecords count h, is, ne-eqb number 0 n) refl

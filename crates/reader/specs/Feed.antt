@@ -19,7 +19,7 @@ use Rattle.reader.specs.declared.log.Extension.the-variants.{Unreadable,
 abbrev pub isOneRecord : List ℕ → Bool
 isOneRecord bytes = eqb (length bytes) (getD bytes 0 0 + 1)
 
--- what is wrong with what stands there, behind the records of the past: L = 0, 4, 5, or 6 to 9; 0 for nothing
+-- what is wrong with what stands there, behind the records of the past: L = 0, 4, 5, 6, 7, 31, 8 or 9; 0 for nothing
 abbrev pub decodedFault : List Record → Decoded → ℕ
 decodedFault past (Found r next) = fault past r
 decodedFault past (Malformed number) = number

@@ -1,13 +1,13 @@
--- Document 01, "The log" and "Turned down by what was handed in": what a whole log is read as. The records come one after the
+-- Document 01, "The log" and "Turned down by what was handed in", with refusal 31 of document 02, change 3: what a whole log is read as. The records come one after the
 -- other; each is held against those before it, which stand here latest first; then left bytes, then 10.
 use Prim.Native.Nat.{ℕ, zero, suc, _+_}
-use mathlib.Core.Bool.{not}
-use mathlib.Core.List.{List, [], _∷_, _++_, reverse}
+use mathlib.Core.Bool.{Bool, false, not}
+use mathlib.Core.List.{List, [], _∷_, _++_, map, reverse}
 use lib.ListN.{length, getD}
 use lib.Dec.{ltb, eqb}
 use Rattle.record.specs.Choice.{if_then_else_}
 use Rattle.record.specs.Number.{bigEndian, bytesOf}
-use Rattle.record.specs.Refusal.{wrongBytes, wrongVersion, tooManyRecords, tickFell, clientBusy, noSuchCall, addedTwice, removePending}
+use Rattle.record.specs.Refusal.{wrongBytes, wrongVersion, tooManyRecords, tickFell, clientBusy, noSuchCall, addedTwice, removePending, tickRepeated}
 use Rattle.record.specs.Record.{encode, decodeAt}
 use Rattle.record.specs.declared.record.Event.{Event}
 use Rattle.record.specs.declared.record.Event.the-variants.{CallAdd, CallRemove, ReturnAdd, ReturnRemove}
@@ -47,38 +47,32 @@ addCall = 1
 abbrev pub removeCall : ℕ
 removeCall = 2
 
--- a pending call (document 01: an open one): its client, its kind and the index of its record
-pub record Call : Type 0 where
-  pub client : ℕ
-  pub kind : ℕ
-  pub index : ℕ
+-- 1 for a call, 0 for a return
+abbrev pub isCall : Event → ℕ
+isCall (CallAdd v) = 1
+isCall CallRemove = 1
+isCall ReturnAdd = 0
+isCall (ReturnRemove x) = 0
 
--- the call that a record makes, none if it is a return
-abbrev pub callOf : Event → ℕ → ℕ → List Call
-callOf (CallAdd v) client index = record { client = client; kind = addCall; index = index } ∷ []
-callOf CallRemove client index = record { client = client; kind = removeCall; index = index } ∷ []
-callOf ReturnAdd client index = []
-callOf (ReturnRemove x) client index = []
+-- the kind of the call that is pending after an event: a call leaves itself, a return none, 0
+abbrev pub leaves : Event → ℕ
+leaves (CallAdd v) = addCall
+leaves CallRemove = removeCall
+leaves ReturnAdd = 0
+leaves (ReturnRemove x) = 0
 
--- the calls of other clients than this one
-unfoldable pub ofOthers : ℕ → List Call → List Call
-ofOthers client [] = []
-ofOthers client (call ∷ calls) = if eqb (call .client) client then ofOthers client calls else call ∷ ofOthers client calls
-
--- the pending calls, earliest first: a call is pending until the next record of its client
-unfoldable pub pendingCalls : List Record → List Call
-pendingCalls [] = []
-pendingCalls (r ∷ past) = ofOthers (r .client) (pendingCalls past) ++ callOf (r .event) (r .client) (length past)
-
--- the kind of a client's pending call, 0 if it has none
-unfoldable pub pendingKind : List Call → ℕ → ℕ
+-- the kind of a client's pending (document 01: open) call, 0 if it has none: a call is pending until the next record of its client
+unfoldable pub pendingKind : List Record → ℕ → ℕ
 pendingKind [] client = 0
-pendingKind (call ∷ calls) client = if eqb (call .client) client then call .kind else pendingKind calls client
+pendingKind (r ∷ past) client = if eqb (r .client) client then leaves (r .event) else pendingKind past client
 
--- the index of the earliest pending remove, or `none` if there is none
-unfoldable pub earliestRemove : List Call → ℕ → ℕ
-earliestRemove [] none = none
-earliestRemove (call ∷ calls) none = if eqb (call .kind) removeCall then call .index else earliestRemove calls none
+-- whether a client's last return has this tick
+unfoldable pub returnedAt : List Record → ℕ → ℕ → Bool
+returnedAt [] client tick = false
+returnedAt (r ∷ past) client tick =
+    if not (eqb (r .client) client) then returnedAt past client tick else
+    if eqb (isCall (r .event)) 1 then returnedAt past client tick else
+    eqb (r .tick) tick
 
 -- the value that a record calls to be added, none if it calls for no add
 abbrev pub valueOf : Event → List ℕ
@@ -97,18 +91,22 @@ abbrev pub lastTick : List Record → ℕ
 lastTick [] = 0
 lastTick (r ∷ past) = r .tick
 
--- 7, 8 and 9: what is wrong with an event of a client whose pending call has this kind; 0 for nothing
-unfoldable pub eventFault : Event → ℕ → List ℕ → ℕ
-eventFault (CallAdd v) pending values = if not (eqb pending 0) then clientBusy else if isIn v values then addedTwice else 0
-eventFault CallRemove pending values = if not (eqb pending 0) then clientBusy else 0
-eventFault ReturnAdd pending values = if not (eqb pending addCall) then noSuchCall else 0
-eventFault (ReturnRemove x) pending values = if not (eqb pending removeCall) then noSuchCall else 0
+-- 7, 31, 8 and 9: what is wrong with an event of a client whose pending call has this kind, and whose last return has its tick or has not; 0 for nothing
+unfoldable pub eventFault : Event → ℕ → Bool → List ℕ → ℕ
+eventFault (CallAdd v) pending repeats values =
+    if not (eqb pending 0) then clientBusy else
+    if repeats then tickRepeated else
+    if isIn v values then addedTwice else
+    0
+eventFault CallRemove pending repeats values = if not (eqb pending 0) then clientBusy else if repeats then tickRepeated else 0
+eventFault ReturnAdd pending repeats values = if not (eqb pending addCall) then noSuchCall else 0
+eventFault (ReturnRemove x) pending repeats values = if not (eqb pending removeCall) then noSuchCall else 0
 
--- 6 to 9: what is wrong with a record behind those before it; 0 for nothing
+-- 6, 7, 31, 8 and 9: what is wrong with a record behind those before it; 0 for nothing
 unfoldable pub fault : List Record → Record → ℕ
 fault past r =
     if ltb (r .tick) (lastTick past) then tickFell else
-    eventFault (r .event) (pendingKind (pendingCalls past) (r .client)) (addedValues past)
+    eventFault (r .event) (pendingKind past (r .client)) (returnedAt past (r .client) (r .tick)) (addedValues past)
 
 -- what a log is read as: its records, first to last, or a refusal with its number and index (of `readPartial` below: readable but for 10; of a session,
 -- also a refusal by how it stands)
@@ -139,9 +137,17 @@ readPartial log =
     if ltb maxRecords (countField log) then refused tooManyRecords 0 else
     scan log (countField log) headerLength []
 
--- the index of the earliest remove without return, or the number of records if there is none
-abbrev pub pendingRemove : List Record → ℕ
-pendingRemove records = earliestRemove (pendingCalls (reverse records)) (length records)
+-- the clients of records
+abbrev pub clientsOf : List Record → List ℕ
+clientsOf records = map (λ r. r .client) records
+
+-- the index of the earliest remove without return, or the number of records if there is none: a call of remove whose client has no later record
+unfoldable pub pendingRemove : List Record → ℕ
+pendingRemove [] = 0
+pendingRemove (r ∷ records) =
+    if not (eqb (leaves (r .event)) removeCall) then suc (pendingRemove records) else
+    if isIn (r .client) (clientsOf records) then suc (pendingRemove records) else
+    0
 
 -- 10, the last test
 abbrev pub complete : Reading → Reading
@@ -149,16 +155,9 @@ complete (readable records) =
     if ltb (pendingRemove records) (length records) then refused removePending (pendingRemove records) else readable records
 complete (refused number index) = refused number index
 
--- a log: "A log with none of 1 to 10 .. is readable."
+-- a log: "A log with none of 1 to 10, nor with a refusal that a later change puts before or among them, is readable."
 abbrev pub readLog : List ℕ → Reading
 readLog log = complete (readPartial log)
-
--- 1 for a call, 0 for a return
-abbrev pub isCall : Event → ℕ
-isCall (CallAdd v) = 1
-isCall CallRemove = 1
-isCall ReturnAdd = 0
-isCall (ReturnRemove x) = 0
 
 -- "Operations are numbered from 0 in the order of their call records": how many there are
 unfoldable pub operations : List Record → ℕ

@@ -11,7 +11,7 @@ use Rattle.record.specs.declared.record.Event.{Event}
 use Rattle.record.specs.declared.record.Event.the-variants.{CallAdd, CallRemove, ReturnAdd, ReturnRemove}
 use Rattle.record.specs.declared.record.Record.{Record}
 use Rattle.record.specs.declared.record.Decoded.the-variants.{Found}
-use Rattle.reader.specs.Log.{logVersion, headerLength, maxRecords, maxLength, addCall, removeCall, countField, Reading, readable, refused, fault, encodeLog}
+use Rattle.reader.specs.Log.{logVersion, headerLength, maxRecords, maxLength, addCall, removeCall, countField, isCall, leaves, Reading, readable, refused, fault, encodeLog}
 
 -- A log that is read has at most 1,024 records, and a refusal a number from 1 to 63 and an index of at most 1,024. The bound on
 -- numbers leaves room for refusals that are not there yet; which ones a log is given is said by `readLog`.
@@ -39,13 +39,6 @@ asks CallRemove = 0
 asks ReturnAdd = addCall
 asks (ReturnRemove x) = removeCall
 
--- the kind of the call that is pending after an event: a call leaves itself, a return none, 0
-abbrev pub leaves : Event → ℕ
-leaves (CallAdd v) = addCall
-leaves CallRemove = removeCall
-leaves ReturnAdd = 0
-leaves (ReturnRemove x) = 0
-
 -- record j is the next one of record i's client
 pub record Next (records : List Record) (i j : ℕ) : Type 0 where
   pub later : i < j
@@ -68,6 +61,8 @@ pub record Regular (records : List Record) : Type 0 where
   -- before it leaves, so that a return follows a call of its operation and a call follows a return
   pub first : (j : ℕ) → j < length records → ((k : ℕ) → k < j → recordOf records k .client ≡ recordOf records j .client → ⊥) → asks (recordOf records j .event) ≡ 0
   pub next : (i j : ℕ) → Next records i j → asks (recordOf records j .event) ≡ leaves (recordOf records i .event)
+  -- a client's call has a higher tick than its return before
+  pub rises : (i j : ℕ) → Next records i j → isCall (recordOf records j .event) ≡ 1 → recordOf records i .tick < recordOf records j .tick
   -- no value is called to be added twice
   pub once : (i j v : ℕ) → i < j → j < length records → recordOf records i .event ≡ CallAdd v → recordOf records j .event ≡ CallAdd v → ⊥
 

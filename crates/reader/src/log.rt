@@ -52,7 +52,7 @@ pub fn check_partial(log: &[u8]) -> Checked
     }
 }
 
-// Checks a log: it is readable, or refused under a number from 1 to 10.
+// Checks a log: it is readable, or refused under a number of the input list.
 pub fn check(log: &[u8]) -> Checked
     ensures { λ r. ⌜ r ≡ checked (readLog (now (log .entry))) ⌝ }
 {

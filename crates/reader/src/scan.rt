@@ -3,21 +3,20 @@
 ghost use mathlib.Core.Path.{_≡_};
 ghost use mathlib.Core.List.{[]};
 ghost use Prim.Native.Nat.{_≤_, _<_};
-ghost use lib.ListN.{length};
 ghost use Rattle.map.specs.Map.{Linked};
 ghost use Rattle.reader.specs.Log.{headerLength, maxRecords, scan};
 ghost use Rattle.reader.specs.Readable.{asks};
 ghost use Rattle.reader.specs.Feed.{extended};
-ghost use Rattle.reader.specs.Tables.{Room, Admitted, Stepped, Passed, FaultBehind, faultIn, surveyed};
+ghost use Rattle.reader.specs.Tables.{tables, New, Room, Stands, Admitted, Stepped, Passed, FaultBehind, faultIn, surveyed};
+use crate::clients::ADD_CALL;
+use crate::clients::REMOVE_CALL;
+use crate::clients::Standing;
+use crate::clients::earliest_remove;
+use crate::clients::note_client;
+use crate::clients::standing_of;
 use crate::format::HEADER;
 use crate::format::MAX_RECORDS;
 use crate::log::Extension;
-use crate::pending::ADD_CALL;
-use crate::pending::REMOVE_CALL;
-use crate::pending::begin_call;
-use crate::pending::earliest_remove;
-use crate::pending::end_call;
-use crate::pending::pending_kind;
 use map::map::CHAINS;
 use map::map::Chains;
 use map::map::KEYS;
@@ -32,16 +31,17 @@ use record::refusal::ADDED_TWICE;
 use record::refusal::CLIENT_BUSY;
 use record::refusal::NO_SUCH_CALL;
 use record::refusal::TICK_FELL;
+use record::refusal::TICK_REPEATED;
 use record::refusal::WRONG_BYTES;
 use table::table::Table;
-use table::table::contains;
 
-// How far a scan has come: the offset of the next record, the last tick, how many calls are pending, how many values were
-// added and how many operations were called.
+// How far a scan has come: the offset of the next record, the last tick, how many records come before those of that tick, how many clients were met,
+// how many values were added and how many operations were called.
 pub struct Progress {
     pub at: usize,
     pub tick: u32,
-    pub pending: usize,
+    pub start: usize,
+    pub clients: usize,
     pub added: usize,
     pub operations: usize,
 }
@@ -83,35 +83,30 @@ fn asks(event: Event) -> u16
     }
 }
 
-// Refusals 6 to 9: what is wrong with a record behind those that the tables hold, 0 for nothing. It goes by what the event asks for:
-// the compiler would make a jump table of a match on the four events.
-fn fault(
-    r: Record,
-    p: Progress,
-    clients: &Table,
-    codes: &Table,
-    values: &Keys,
-    chains: &Chains,
-) -> u32
-    requires { ⌜ Room p (now clients) (now codes) (now values) (now chains) ⌝ }
-    ensures { λ f. ⌜ f ≡ faultIn r p (now (clients .entry)) (now (codes .entry)) (now (values .entry)) ⌝ }
+// Refusals 6, 7, 31, 8 and 9: what is wrong with a record behind those that the tables hold, 0 for nothing. It goes by what the event asks for: the
+// compiler would make a jump table of a match on the four events.
+fn fault(r: Record, p: Progress, s: Standing, values: &Keys, chains: &Chains) -> u32
+    requires { ⌜ Linked (now values) (now chains) (p .added) ⌝ }
+    ensures { λ f. ⌜ f ≡ faultIn r p s (now (values .entry)) ⌝ }
 {
     if r.tick < p.tick {
         return TICK_FELL;
     }
-    let client = r.client;
-    let pending = p.pending;
     let added = p.added;
     let event = r.event;
+    let pending = s.code % 4;
     let kind = asks(event);
     if kind != 0 {
-        if pending_kind(clients, codes, pending, client) != kind {
+        if pending != kind {
             return NO_SUCH_CALL;
         }
         return 0;
     }
-    if contains(clients, pending, client) {
+    if pending != 0 {
         return CLIENT_BUSY;
+    }
+    if s.start < s.code as usize / 4 {
+        return TICK_REPEATED;
     }
     match event {
         Event::CallAdd(value) => {
@@ -129,45 +124,48 @@ fn admit(
     r: Record,
     next: usize,
     index: usize,
+    s: Standing,
     p: Progress,
     clients: &mut Table,
+    heads: &mut Table,
+    links: &mut Table,
     codes: &mut Table,
     values: &mut Keys,
     chains: &mut Chains,
 ) -> Progress
-    requires { ⌜ (index < maxRecords) × Room p (now clients) (now codes) (now values) (now chains) ⌝ }
-    ensures { λ q. ⌜ Admitted r next index p (now (clients .entry)) (now (codes .entry)) (now (values .entry)) (now (chains .entry)) q (now (clients .exit)) (now (codes .exit)) (now (values .exit)) (now (chains .exit)) ⌝ }
+    requires { ⌜ (index < maxRecords) × Room p (tables (now clients) (now heads) (now links) (now codes) (now values) (now chains)) × Stands r index p (now clients) (now codes) s ⌝ }
+    ensures { λ q. ⌜ Admitted r next index p (tables (now (clients .entry)) (now (heads .entry)) (now (links .entry)) (now (codes .entry)) (now (values .entry)) (now (chains .entry))) q (tables (now (clients .exit)) (now (heads .exit)) (now (links .exit)) (now (codes .exit)) (now (values .exit)) (now (chains .exit))) ⌝ }
 {
-    let client = r.client;
-    let pending = p.pending;
+    let entry = s.entry;
+    let count = p.clients;
     let added = p.added;
     let event = r.event;
+    let met = note_client(r, index, entry, count, clients, heads, links, codes);
     match event {
         Event::CallAdd(value) => {
-            begin_call(clients, codes, pending, client, ADD_CALL, index);
             push(values, chains, added, value);
             Progress {
                 at: next,
                 tick: r.tick,
-                pending: pending + 1,
+                start: s.start,
+                clients: met,
                 added: added + 1,
                 operations: p.operations + 1,
             }
         }
-        Event::CallRemove => {
-            begin_call(clients, codes, pending, client, REMOVE_CALL, index);
-            Progress {
-                at: next,
-                tick: r.tick,
-                pending: pending + 1,
-                added,
-                operations: p.operations + 1,
-            }
-        }
+        Event::CallRemove => Progress {
+            at: next,
+            tick: r.tick,
+            start: s.start,
+            clients: met,
+            added,
+            operations: p.operations + 1,
+        },
         Event::ReturnAdd | Event::ReturnRemove(_) => Progress {
             at: next,
             tick: r.tick,
-            pending: end_call(clients, codes, pending, client),
+            start: s.start,
+            clients: met,
             added,
             operations: p.operations,
         },
@@ -180,22 +178,37 @@ fn read_record(
     index: usize,
     p: Progress,
     clients: &mut Table,
+    heads: &mut Table,
+    links: &mut Table,
     codes: &mut Table,
     values: &mut Keys,
     chains: &mut Chains,
 ) -> Step
-    requires { ⌜ (index < maxRecords) × Room p (now clients) (now codes) (now values) (now chains) ⌝ }
-    ensures { λ s. ⌜ Stepped (now (log .entry)) index p (now (clients .entry)) (now (codes .entry)) (now (values .entry)) (now (chains .entry)) s (now (clients .exit)) (now (codes .exit)) (now (values .exit)) (now (chains .exit)) ⌝ }
+    requires { ⌜ (index < maxRecords) × Room p (tables (now clients) (now heads) (now links) (now codes) (now values) (now chains)) ⌝ }
+    ensures { λ s. ⌜ Stepped (now (log .entry)) index p (tables (now (clients .entry)) (now (heads .entry)) (now (links .entry)) (now (codes .entry)) (now (values .entry)) (now (chains .entry))) s (tables (now (clients .exit)) (now (heads .exit)) (now (links .exit)) (now (codes .exit)) (now (values .exit)) (now (chains .exit))) ⌝ }
 {
     let at = p.at;
     match decode_at(log, at) {
         Decoded::Malformed(number) => Step::Stop(number),
         Decoded::Found { record, next } => {
-            let number = fault(record, p, clients, codes, values, chains);
+            let s = standing_of(record, index, p, clients, heads, links, codes);
+            let number = fault(record, p, s, values, chains);
             if number != 0 {
                 return Step::Stop(number);
             }
-            Step::Next(admit(record, next, index, p, clients, codes, values, chains))
+            Step::Next(admit(
+                record,
+                next,
+                index,
+                s,
+                p,
+                clients,
+                heads,
+                links,
+                codes,
+                values,
+                chains,
+            ))
         }
     }
 }
@@ -205,23 +218,26 @@ fn read_all(
     log: &[u8],
     count: usize,
     clients: &mut Table,
+    heads: &mut Table,
+    links: &mut Table,
     codes: &mut Table,
     values: &mut Keys,
     chains: &mut Chains,
 ) -> Pass
-    requires { ⌜ (count ≤ maxRecords) × (length (now clients) ≡ maxRecords) × (length (now codes) ≡ maxRecords) × Linked (now values) (now chains) 0 ⌝ }
-    ensures { λ r. ⌜ Passed (now (log .entry)) count r (now (clients .exit)) (now (codes .exit)) (now (values .exit)) (now (chains .exit)) ⌝ }
+    requires { ⌜ (count ≤ maxRecords) × New (tables (now clients) (now heads) (now links) (now codes) (now values) (now chains)) ⌝ }
+    ensures { λ r. ⌜ Passed (now (log .entry)) count r (tables (now (clients .exit)) (now (heads .exit)) (now (links .exit)) (now (codes .exit)) (now (values .exit)) (now (chains .exit))) ⌝ }
 {
     let mut p = Progress {
         at: HEADER,
         tick: 0,
-        pending: 0,
+        start: 0,
+        clients: 0,
         added: 0,
         operations: 0,
     };
     let mut i = 0;
     while i < count {
-        match read_record(log, i, p, clients, codes, values, chains) {
+        match read_record(log, i, p, clients, heads, links, codes, values, chains) {
             Step::Stop(number) => {
                 return Pass::Stopped { number, index: i };
             }
@@ -247,6 +263,8 @@ pub(crate) fn read_records(log: &[u8], count: usize) -> Survey
     ensures { λ r. ⌜ r ≡ surveyed (scan (now (log .entry)) count headerLength []) ⌝ }
 {
     let mut clients = [0u16; MAX_RECORDS];
+    let mut heads = [0u16; MAX_RECORDS];
+    let mut links = [0u16; MAX_RECORDS];
     let mut codes = [0u16; MAX_RECORDS];
     let mut values = [0u32; KEYS];
     let mut chains = [0u16; CHAINS];
@@ -254,33 +272,38 @@ pub(crate) fn read_records(log: &[u8], count: usize) -> Survey
         log,
         count,
         &mut clients,
+        &mut heads,
+        &mut links,
         &mut codes,
         &mut values,
         &mut chains,
     ) {
         Pass::Stopped { number, index } => Survey::Broken { number, index },
         Pass::Through(p) => {
-            let pending = p.pending;
+            let met = p.clients;
             Survey::Whole {
                 records: count,
                 operations: p.operations,
-                pending_remove: earliest_remove(&codes, pending, count),
+                pending_remove: earliest_remove(&codes, met, count),
             }
         }
     }
 }
 
-// What is wrong with bytes that are handed in as one record behind those that the tables hold, 0 for nothing.
+// What is wrong with bytes that are handed in as one record behind those that the tables hold, `index` of them; 0 for nothing.
 fn fault_behind(
     bytes: &[u8],
+    index: usize,
     p: Progress,
     clients: &Table,
+    heads: &Table,
+    links: &Table,
     codes: &Table,
     values: &Keys,
     chains: &Chains,
 ) -> u32
-    requires { ⌜ Room p (now clients) (now codes) (now values) (now chains) ⌝ }
-    ensures { λ f. ⌜ FaultBehind (now (bytes .entry)) p (now (clients .entry)) (now (codes .entry)) (now (values .entry)) (now (chains .entry)) f ⌝ }
+    requires { ⌜ Room p (tables (now clients) (now heads) (now links) (now codes) (now values) (now chains)) ⌝ }
+    ensures { λ f. ⌜ FaultBehind (now (bytes .entry)) index p (tables (now (clients .entry)) (now (heads .entry)) (now (links .entry)) (now (codes .entry)) (now (values .entry)) (now (chains .entry))) f ⌝ }
 {
     if bytes.len() == 0 {
         return WRONG_BYTES;
@@ -290,7 +313,10 @@ fn fault_behind(
     }
     match decode_at(bytes, 0) {
         Decoded::Malformed(number) => number,
-        Decoded::Found { record, next: _ } => fault(record, p, clients, codes, values, chains),
+        Decoded::Found { record, next: _ } => {
+            let s = standing_of(record, index, p, clients, heads, links, codes);
+            fault(record, p, s, values, chains)
+        }
     }
 }
 
@@ -300,6 +326,8 @@ pub(crate) fn extend_records(log: &[u8], count: usize, bytes: &[u8]) -> Extensio
     ensures { λ r. ⌜ r ≡ extended (scan (now (log .entry)) count headerLength []) (now (bytes .entry)) ⌝ }
 {
     let mut clients = [0u16; MAX_RECORDS];
+    let mut heads = [0u16; MAX_RECORDS];
+    let mut links = [0u16; MAX_RECORDS];
     let mut codes = [0u16; MAX_RECORDS];
     let mut values = [0u32; KEYS];
     let mut chains = [0u16; CHAINS];
@@ -307,6 +335,8 @@ pub(crate) fn extend_records(log: &[u8], count: usize, bytes: &[u8]) -> Extensio
         log,
         count,
         &mut clients,
+        &mut heads,
+        &mut links,
         &mut codes,
         &mut values,
         &mut chains,
@@ -319,7 +349,17 @@ pub(crate) fn extend_records(log: &[u8], count: usize, bytes: &[u8]) -> Extensio
             if MAX_RECORDS <= count {
                 return Extension::Full;
             }
-            let number = fault_behind(bytes, p, &clients, &codes, &values, &chains);
+            let number = fault_behind(
+                bytes,
+                count,
+                p,
+                &clients,
+                &heads,
+                &links,
+                &codes,
+                &values,
+                &chains,
+            );
             if number != 0 {
                 return Extension::Faulty {
                     number,

@@ -8,7 +8,7 @@ use history::operations::tabulate;
 use history::sheet::is_order_sheet;
 use reader::log::Checked;
 
-// Yes, if the sheet lists a legal order of the log's operations; no, if what it lists is none; or a refusal, of the log under 1 to 10 or of
+// Yes, if the sheet lists a legal order of the log's operations; no, if what it lists is none; or a refusal, of the log or of
 // the sheet under 11.
 pub enum Replayed {
     Yes,

@@ -4,13 +4,13 @@ use native.Mathlib.Omega.{arith}
 use native.Mathlib.Numerals.{add-one}
 use mathlib.Core.Path.{_≡_, refl, sym, ap, _∙_}
 use mathlib.Core.Bool.{Bool, true, false}
-use mathlib.Core.List.{List, [], _∷_, _++_, map, map-append, append-assoc, append-nil}
-use lib.ListN.{length, getD, set, replicate, take, drop, drop-of-length-le, length-append, length-take, length-drop, length-set}
+use mathlib.Core.List.{List, [], _∷_, _++_, append-assoc, append-nil}
+use lib.ListN.{length, getD, set, replicate, take, drop, drop-of-length-le, length-set}
 use lib.Seq.{take-suc, take-suc-set, take-set-lt, drop-cons, drop-set-lt, getD-take, length-take-le}
 use lib.Dec.{eqb}
 use borrow.Author.Tests.{eq-eqb, ne-eqb}
 use Rattle.record.specs.Choice.{if_then_else_}
-use Rattle.table.specs.Table.{tableSize, isIn, position, without, Pushed}
+use Rattle.table.specs.Table.{tableSize, isIn, Pushed}
 
 -- an array of zeros
 pub zeros : (n i : ℕ) → _≡_ {A = ℕ} (getD (replicate n 0) i 0) 0
@@ -66,41 +66,10 @@ unfolding isIn
 isIn-nowhere v [] none = refl
 isIn-nowhere v (x ∷ xs) none = rw (ne-eqb x v (none 0 (omega arith))) (isIn-nowhere v xs (λ i l. none (suc i) (omega arith)))
 
--- its position is the first index at which it stands, or the length
-pub position-first : (x : ℕ) (ys : List ℕ) (i : ℕ) → i < length ys → getD ys i 0 ≡ x → ((p : ℕ) → p < i → getD ys p 0 ≡ x → ⊥) → position x ys ≡ i
-unfolding position
-position-first x [] i l e first = absurd (omega arith)
-position-first x (y ∷ ys) zero l e first = rw (eq-eqb y x e) refl
-position-first x (y ∷ ys) (suc i) l e first = rw (ne-eqb y x (first 0 (omega arith))) (ap suc (position-first x ys i (omega arith) e (λ p b. first (suc p) (omega arith))))
-
-pub position-nowhere : (x : ℕ) (ys : List ℕ) → ((p : ℕ) → p < length ys → getD ys p 0 ≡ x → ⊥) → position x ys ≡ length ys
-unfolding position
-position-nowhere x [] none = refl
-position-nowhere x (y ∷ ys) none = rw (ne-eqb y x (none 0 (omega arith))) (ap suc (position-nowhere x ys (λ p b. none (suc p) (omega arith))))
-
 -- the entries in use, the first `count` of a table
 module _ (ys : List ℕ) (count : ℕ) (long : count ≤ length ys) where
   pub used : length (take count ys) ≡ count
   used = length-take-le count ys long
-
-  -- those from i on begin with the entry at i
-  pub from : (i : ℕ) → i < count → drop i (take count ys) ≡ getD ys i 0 ∷ drop (i + 1) (take count ys)
-  from i h = rw (drop-cons (take count ys) i 0 (omega (arith, used)), getD-take count ys i 0 h, add-one)
-
-  pub past-all : drop count (take count ys) ≡ []
-  past-all = drop-of-length-le (take count ys) {i = count} (omega (arith, used))
-
-  pub position-hit : (x i : ℕ) → i < count → getD ys i 0 ≡ x → position x (drop i (take count ys)) ≡ 0
-  unfolding position
-  position-hit x i h e = rw (from i h, eq-eqb _ _ e)
-
-  pub position-miss : (x i : ℕ) → i < count → (getD ys i 0 ≡ x → ⊥) → position x (drop i (take count ys)) ≡ suc (position x (drop (i + 1) (take count ys)))
-  unfolding position
-  position-miss x i h n = rw (from i h, ne-eqb _ _ n)
-
-  pub position-none : (x : ℕ) → position x (drop count (take count ys)) ≡ 0
-  unfolding position
-  position-none x = rw past-all
 
 -- a number stored behind the entries in use
 pub pushed : (table : List ℕ) (count x : ℕ) → count < tableSize → length table ≡ tableSize → Pushed count x table (set table count x)
@@ -123,20 +92,3 @@ shift-end t count i last long =
     let none : drop (suc i) (take count t) ≡ [] = drop-of-length-le (take count t) {i = suc i} (omega (arith, length-take-le count t long)) in
     let same : i ≡ count - 1 = omega arith in
     rw (none, append-nil (take i t), same)
-
-map-take : {A B : Type 0} (f : A → B) (k : ℕ) (xs : List A) → map f (take k xs) ≡ take k (map f xs)
-map-take f zero xs = refl
-map-take f (suc k) [] = refl
-map-take {B = B} f (suc k) (x ∷ xs) = ap (λ (ys : List B). f x ∷ ys) (map-take f k xs)
-
-map-drop : {A B : Type 0} (f : A → B) (k : ℕ) (xs : List A) → map f (drop k xs) ≡ drop k (map f xs)
-map-drop f zero xs = refl
-map-drop f (suc k) [] = refl
-map-drop f (suc k) (x ∷ xs) = map-drop f k xs
-
--- a map goes past an entry taken out
-pub map-without : {A B : Type 0} (f : A → B) (k : ℕ) (xs : List A) → map f (without k xs) ≡ without k (map f xs)
-map-without f k xs = rw (map-append f (take k xs) (drop (suc k) xs), map-take f k xs, map-drop f (suc k) xs)
-
-pub length-without : {A : Type 0} (k : ℕ) (xs : List A) → k < length xs → length (without k xs) ≡ length xs - 1
-length-without k xs h = simp (length-append, length-take, length-drop) (omega arith)

@@ -16,11 +16,6 @@ unfoldable pub isIn : ℕ → List ℕ → Bool
 isIn v [] = false
 isIn v (x ∷ xs) = if eqb x v then true else isIn v xs
 
--- the index of the first x in a list, or its length
-unfoldable pub position : ℕ → List ℕ → ℕ
-position x [] = 0
-position x (y ∷ ys) = if eqb y x then 0 else suc (position x ys)
-
 -- a list without what stands at an index
 abbrev pub without : {A : Type 0} → ℕ → List A → List A
 without k xs = take k xs ++ drop (suc k) xs

@@ -1,9 +1,9 @@
-// Tables of which the first `count` entries are in use: searches, and an entry put in at the end or taken out. What they hold is
-// said by lists, in specs/Table.antt.
+// Tables of which the first `count` entries are in use: an entry put in at the end or taken out. What they hold is said by lists, in
+// specs/Table.antt. And a search through a list.
 ghost use mathlib.Core.Path.{_≡_};
 ghost use Prim.Native.Nat.{_-_, _<_};
 ghost use lib.ListN.{length, take};
-ghost use Rattle.table.specs.Table.{tableSize, isIn, position, without, Fits, Pushed};
+ghost use Rattle.table.specs.Table.{tableSize, isIn, without, Fits, Pushed};
 
 // As many entries as a log may have records.
 pub const SIZE: usize = 1024;
@@ -24,37 +24,6 @@ pub fn is_in(x: u32, list: &[u32]) -> bool
         i += 1;
     }
     found
-}
-
-// Whether x is in the table. No early exit, as in `is_in`.
-pub fn contains(table: &Table, count: usize, x: u16) -> bool
-    requires { ⌜ Fits count (now table) ⌝ }
-    ensures { λ r. ⌜ r ≡ isIn x (take count (now (table .entry))) ⌝ }
-{
-    let mut found = false;
-    let mut at = 0;
-    while at < count {
-        if table[at] == x {
-            found = true;
-        }
-        at += 1;
-    }
-    found
-}
-
-// The index of the first x, or `count` where there is none.
-pub fn find(table: &Table, count: usize, x: u16) -> usize
-    requires { ⌜ Fits count (now table) ⌝ }
-    ensures { λ r. ⌜ r ≡ position x (take count (now (table .entry))) ⌝ }
-{
-    let mut i = 0;
-    while i < count {
-        if table[i] == x {
-            return i;
-        }
-        i += 1;
-    }
-    i
 }
 
 // Puts x behind the entries in use.

@@ -92,7 +92,7 @@ module _ {log : List ℕ} {records : List Record} (readable : ReadableLog log re
     line-open pending i b l = go (decLt (returnIndexOf records o) (length records))
       where
         go : Dec (returnIndexOf records o < length records) → getD (lineOf records o) (17 + i) 0 ≡ hash
-        go (yes r) = absurd (pending (position-returned (readable .partial) (returnIndexOf records o) .1 r))
+        go (yes r) = absurd (pending (position-returned records (returnIndexOf records o) .1 r))
         go (no r) = line-hash i b (omega arith) l
 
     -- "else a dot"

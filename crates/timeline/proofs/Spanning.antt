@@ -20,7 +20,7 @@ use Rattle.history.specs.Owners.{Owned}
 use Rattle.history.specs.Table.{Whole}
 use Rattle.history.specs.declared.owners.Owner.{Owner}
 use Rattle.history.proofs.Along.{whole-one}
-use Rattle.history.proofs.Events.{isCall-small}
+use Rattle.reader.proofs.Events.{isCall-small}
 use Rattle.history.proofs.Numbering.{rank-step, ranks-below, return-behind}
 use Rattle.history.proofs.Owning.{operation-called, owner-called, owner-returned, returned-by, operation-known}
 use Rattle.history.proofs.Walking.{Walking, walking-starts, walking-regular, walking-below, walking-here, walking-owner, walking-next}

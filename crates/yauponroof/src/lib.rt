@@ -22,7 +22,7 @@ use reader::log::check;
 use replay::replay::replay;
 use timeline::page::page;
 
-// Checks a log. Returns the number of its operations, or a refusal from 1 to 10.
+// Checks a log. Returns the number of its operations, or a refusal of the log.
 #[no_mangle]
 pub extern "C" fn yr_check(log: &[u8]) -> u64
     ensures { λ r. ⌜ r ≡ checkAnswer (checked (readLog (now (log .entry)))) ⌝ }
@@ -30,7 +30,7 @@ pub extern "C" fn yr_check(log: &[u8]) -> u64
     check_answer(check(log))
 }
 
-// Holds the order that a sheet lists against a log. Returns 1 if it is legal and 0 if it is not, or a refusal from 1 to 11.
+// Holds the order that a sheet lists against a log. Returns 1 if it is legal and 0 if it is not, or a refusal: of the log, or 11.
 #[no_mangle]
 pub extern "C" fn yr_replay(log: &[u8], sheet: &[u8]) -> u64
     ensures { λ r. ⌜ r ≡ replayAnswer (replayed (readLog (now (log .entry))) (now (sheet .entry))) ⌝ }
@@ -38,7 +38,7 @@ pub extern "C" fn yr_replay(log: &[u8], sheet: &[u8]) -> u64
     replay_answer(replay(log, sheet))
 }
 
-// Judges a log: writes the sheet of its verdict. Returns how many bytes were written, or a refusal from 1 to 10 or 24.
+// Judges a log: writes the sheet of its verdict. Returns how many bytes were written, or a refusal: of the log, or 24.
 #[no_mangle]
 pub extern "C" fn yr_judge(log: &[u8], sheet: &mut [u8]) -> u64
     ensures { λ r. ⌜ JudgeAnswers (readLog (now (log .entry))) (now (sheet .entry)) r (now (sheet .exit)) ⌝ }
@@ -46,7 +46,7 @@ pub extern "C" fn yr_judge(log: &[u8], sheet: &mut [u8]) -> u64
     judge_answer(judge(log, sheet))
 }
 
-// Writes the excerpt of a log whose verdict is a pattern. Returns how many bytes were written, or a refusal from 1 to 10, 23 or 24.
+// Writes the excerpt of a log whose verdict is a pattern. Returns how many bytes were written, or a refusal: of the log, 23 or 24.
 #[no_mangle]
 pub extern "C" fn yr_excerpt(log: &[u8], out: &mut [u8]) -> u64
     ensures { λ r. ⌜ (r ≡ outputAnswer (excerptAnswer (readLog (now (log .entry))) (now (out .entry))))
@@ -55,7 +55,7 @@ pub extern "C" fn yr_excerpt(log: &[u8], out: &mut [u8]) -> u64
     output_answer(excerpt(log, out))
 }
 
-// Writes the log of the operations on these values. Returns how many bytes were written, or a refusal from 1 to 10 or 24.
+// Writes the log of the operations on these values. Returns how many bytes were written, or a refusal: of the log, or 24.
 #[no_mangle]
 pub extern "C" fn yr_narrow(log: &[u8], values: &[u32], out: &mut [u8]) -> u64
     ensures { λ r. ⌜ (r ≡ outputAnswer (narrowAnswer (readLog (now (log .entry))) (now (values .entry)) (now (out .entry))))
@@ -64,7 +64,7 @@ pub extern "C" fn yr_narrow(log: &[u8], values: &[u32], out: &mut [u8]) -> u64
     output_answer(narrow(log, values, out))
 }
 
-// Writes the page of a log of at most 63 records. Returns how many bytes were written, or a refusal from 1 to 10, 24 or 30.
+// Writes the page of a log of at most 63 records. Returns how many bytes were written, or a refusal: of the log, 24 or 30.
 #[no_mangle]
 pub extern "C" fn yr_page(log: &[u8], out: &mut [u8]) -> u64
     ensures { λ r. ⌜ (r ≡ outputAnswer (pageAnswer (readLog (now (log .entry))) (now (out .entry))))

@@ -19,7 +19,7 @@ pub extern "C" fn yr_begin(s: &mut Session, buf: &mut [u8]) -> u64
     t.answer
 }
 
-// Puts a record behind those that an open session holds. Returns how many bytes it has, or a refusal: 25, 20, 21, 1, 4 to 9 or
+// Puts a record behind those that an open session holds. Returns how many bytes it has, or a refusal: 25, 20, 21, one of the record, or
 // 24.
 #[no_mangle]
 pub extern "C" fn yr_feed(s: &mut Session, buf: &mut [u8], bytes: &[u8]) -> u64

@@ -151,7 +151,7 @@ impl<'a> Author<'a> {
         let record = self.some_record();
         let other = self.some_record();
         let mut bytes = record_bytes(&record);
-        match self.random.below(13) {
+        match self.random.below(14) {
             0 => bytes.clear(),
             1 => bytes.truncate(self.random.below(bytes.len())),
             2 => bytes.resize(bytes.len() + 1 + self.random.below(3), 7),
@@ -177,6 +177,7 @@ impl<'a> Author<'a> {
                 })
             }
             11 => bytes = record_bytes(&self.added_again(record)),
+            12 => bytes = record_bytes(&self.called_again(record)),
             _ => {}
         }
         bytes
@@ -191,6 +192,13 @@ impl<'a> Author<'a> {
         });
         let value = self.random.pick_from(added).unwrap_or(0);
         call_add(NEW_CLIENT, record.tick, value)
+    }
+
+    /// The client of the last record that was fed calls at its tick, in place of the record.
+    fn called_again(&mut self, record: Record) -> Record {
+        let fed = self.plan.len() - self.planned.len();
+        let last = fed.checked_sub(1).map_or(record, |last| self.plan[last]);
+        call_remove(last.client, last.tick)
     }
 
     /// The record a few ticks sooner.

@@ -9,12 +9,12 @@ use crate::library::guarded::written;
 use crate::library::{check, excerpt, judge, narrow, page, replay};
 use crate::model::sheet::sheet;
 use crate::model::{linearization, reader};
-use crate::{refused, Answer};
+use crate::{refused, Answer, NUMBERS};
 
-/// How often check gave each answer: at 0 accepted logs, at 1 to 10 the refusals of that number.
+/// How often check gave each answer: at 0 accepted logs, at the others the refusals of that number.
 #[derive(Debug, Default)]
 pub struct Tally {
-    seen: [u64; 11],
+    seen: [u64; NUMBERS],
     entries: Entries,
     archives: Archives,
     pages: Pages,
@@ -96,13 +96,24 @@ impl Tally {
 
     /// Asserts that each answer was seen as often as its floor says: accepted first, then 1 to 10.
     pub fn assert_at_least(&self, floors: [u64; 11]) {
-        for (answer, (seen, floor)) in self.seen.iter().zip(floors).enumerate() {
-            assert!(
-                *seen >= floor,
-                "answer {answer} was seen {seen} times, not {floor} (0 is accepted); seen: {:?}",
-                self.seen
-            );
+        for (answer, floor) in floors.into_iter().enumerate() {
+            self.assert_seen(answer, floor);
         }
+    }
+
+    /// Asserts that the answer of that number was seen at least so often.
+    pub fn assert_seen(&self, answer: usize, floor: u64) {
+        let seen = self.seen[answer];
+        assert!(
+            seen >= floor,
+            "answer {answer} was seen {seen} times, not {floor} (0 is accepted); seen: {:?}",
+            self.seen
+        );
+    }
+
+    /// How often the answer of that number was seen.
+    pub fn seen(&self, answer: usize) -> u64 {
+        self.seen[answer]
     }
 }
 

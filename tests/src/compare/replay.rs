@@ -3,14 +3,14 @@
 use crate::hex::show;
 use crate::library::replay;
 use crate::model::linearization;
-use crate::{Answer, NO, YES};
+use crate::{Answer, NO, NUMBERS, YES};
 
-/// How often replay gave each answer: yes, no, and at 1 to 11 the refusals of that number.
+/// How often replay gave each answer: yes, no, and the refusals by their numbers.
 #[derive(Debug, Default)]
 pub struct Replays {
     yes: u64,
     no: u64,
-    refused: [u64; 12],
+    refused: [u64; NUMBERS],
 }
 
 impl Replays {

@@ -1,6 +1,7 @@
 //! Chains of values: each is added before the one before it is removed, so that together they cover
 //! all gaps of an empty remove that overlaps them. A chain may be broken in places.
 
+use crate::logs::ticks::rising;
 use crate::model::record::{call_add, call_remove, return_add, return_value, Record};
 
 /// What becomes of the last value of a chain.
@@ -22,8 +23,8 @@ pub struct Chain {
 const ADDER: u16 = 0;
 const REMOVER: u16 = 1;
 
-/// A chain of `count` values. Where `breaks` says so of a value, the value before it is called to
-/// be removed before its own add returns, and a gap is left.
+/// A chain of `count` values, with ticks that rise. Where `breaks` says so of a value, the value
+/// before it is called to be removed before its own add returns, and a gap is left.
 pub fn chain(count: u32, last: Last, mut breaks: impl FnMut(u32) -> bool) -> Chain {
     let mut chain = Chain {
         records: vec![call_add(ADDER, 0, 0), return_add(ADDER, 0)],
@@ -36,6 +37,7 @@ pub fn chain(count: u32, last: Last, mut breaks: impl FnMut(u32) -> bool) -> Cha
         chain.records.push(call_remove(REMOVER, 0));
         chain.records.push(return_value(REMOVER, 0, count - 1));
     }
+    chain.records = rising(&chain.records);
     chain
 }
 

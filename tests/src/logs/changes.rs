@@ -1,4 +1,5 @@
-//! Simulated runs whose log is changed in one place and stays readable.
+//! Simulated runs whose log is changed in one place and stays readable. Their ticks rise with every
+//! record, and each place keeps its tick; with equal ticks a changed log might be refused with 31.
 
 use crate::logs::simulation::Run;
 use crate::model::record::{Event, Record, Removed};

@@ -1,7 +1,8 @@
 //! Readable logs of few records, every one or one by chance. Clients and values are numbered from 0
 //! in the order in which they first appear, so that no two logs differ by these names alone; ticks
-//! rise by one.
+//! rise by one where they are not joined.
 
+use crate::logs::ticks::every_joining;
 use crate::model::record::{Event, Record, Removed};
 use crate::random::Random;
 
@@ -11,7 +12,13 @@ pub fn every_log(most: usize, visit: &mut impl FnMut(&[Record])) {
     visit_from(&Partial::default(), most, visit);
 }
 
-/// The same for the logs in which each operation has a client of its own, which are far fewer. Who
+/// The same logs with their ticks joined in every way: each record has the tick of the one before it
+/// or one more. Some of these logs are refused with 31, and all others are readable.
+pub fn every_log_with_joined_ticks(most: usize, visit: &mut impl FnMut(&[Record])) {
+    every_log(most, &mut |records| every_joining(records, visit));
+}
+
+/// The logs of `every_log` in which each operation has a client of its own, which are far fewer. Who
 /// makes a call matters only to find its return.
 pub fn every_log_of_new_clients(most: usize, visit: &mut impl FnMut(&[Record])) {
     let partial = Partial {

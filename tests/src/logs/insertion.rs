@@ -1,10 +1,11 @@
 //! Operations put into a log between its records: short runs in document 01's notation, and empty
-//! removes.
+//! removes. The ticks of what is made rise with every record, so that all stand where they are put.
 
 use std::collections::HashSet;
 
 use crate::logs::clients::new_client;
 use crate::logs::notation::run;
+use crate::logs::ticks::rising;
 use crate::model::projection::values;
 use crate::model::record::{call_remove, return_empty, Record};
 
@@ -21,13 +22,11 @@ pub fn with_run(records: &[Record], parts: &[Part]) -> Vec<Record> {
     let mut from = 0;
     for &(at, text) in parts {
         all.extend(&records[from..at]);
-        let tick = all.last().map_or(0, |record| record.tick);
-        let part = put_in.by_ref().take(text.split_whitespace().count());
-        all.extend(part.map(|record| Record { tick, ..record }));
+        all.extend(put_in.by_ref().take(text.split_whitespace().count()));
         from = at;
     }
     all.extend(&records[from..]);
-    all
+    rising(&all)
 }
 
 /// The run with clients and values that the records do not have.
@@ -57,14 +56,13 @@ pub fn with_empty_removes(records: &[Record], spans: &[Span]) -> Vec<Record> {
     let by: Vec<(u16, Span)> = clients.zip(spans.iter().copied()).collect();
     let mut all: Vec<Record> = Vec::new();
     for at in 0..=records.len() {
-        let tick = all.last().map_or(0, |record| record.tick);
         let calls = by.iter().filter(|(_, span)| span.0 == at);
-        all.extend(calls.map(|&(client, _)| call_remove(client, tick)));
+        all.extend(calls.map(|&(client, _)| call_remove(client, 0)));
         let returns = by.iter().filter(|(_, span)| span.1 == at);
-        all.extend(returns.map(|&(client, _)| return_empty(client, tick)));
+        all.extend(returns.map(|&(client, _)| return_empty(client, 0)));
         all.extend(records.get(at));
     }
-    all
+    rising(&all)
 }
 
 #[cfg(test)]
@@ -76,12 +74,12 @@ mod tests {
     fn a_run_is_put_in_part_by_part() {
         let records = [call_add(5, 10, 1), return_add(5, 20)];
         let expected = [
-            call_add(7, 0, 0),
-            call_add(5, 10, 1),
-            return_add(7, 10),
-            call_remove(8, 10),
-            return_add(5, 20),
-            return_value(8, 20, 2),
+            call_add(7, 1, 0),
+            call_add(5, 2, 1),
+            return_add(7, 3),
+            call_remove(8, 4),
+            return_add(5, 5),
+            return_value(8, 6, 2),
         ];
         let parts = [(0, "A0("), (1, "A0) R("), (2, "R1)")];
         assert_eq!(with_run(&records, &parts), expected);
@@ -91,12 +89,12 @@ mod tests {
     fn empty_removes_are_put_in_at_their_places() {
         let records = [call_add(5, 10, 1), return_add(5, 20)];
         let expected = [
-            call_remove(6, 0),
-            call_add(5, 10, 1),
-            call_remove(7, 10),
-            return_empty(7, 10),
-            return_add(5, 20),
-            return_empty(6, 20),
+            call_remove(6, 1),
+            call_add(5, 2, 1),
+            call_remove(7, 3),
+            return_empty(7, 4),
+            return_add(5, 5),
+            return_empty(6, 6),
         ];
         assert_eq!(with_empty_removes(&records, &[(0, 2), (1, 1)]), expected);
     }

@@ -12,3 +12,4 @@ pub mod notation;
 pub mod samples;
 pub mod simulation;
 pub mod slots;
+pub mod ticks;

@@ -2,24 +2,34 @@
 //!
 //! `A7(` calls add of 7, `A7)` returns it; `R(` calls remove, `R7)` and `R-)` return it; letters
 //! behind R tell removes apart, as in `Ra(`, `Ra2)`. Ticks rise by one from 1, and each operation
-//! has a client of its own, numbered from 1 in the order of the calls.
+//! has a client of its own, numbered from 1 in the order of the calls. In a run in batches the tick
+//! rises where a bar stands, and nowhere else: "A7( A7) | R( R7)".
 
 use std::collections::HashMap;
 
+use crate::logs::ticks::rising;
 use crate::model::record::{Event, Record, Removed};
 
 /// The records of a run.
 pub fn run(text: &str) -> Vec<Record> {
+    rising(&run_in_batches(text))
+}
+
+/// The records of a run in batches: those between two bars have one tick.
+pub fn run_in_batches(text: &str) -> Vec<Record> {
     let mut clients = Clients::default();
-    let event_at = |(index, word)| {
-        let (client, event) = parse_event(word, &mut clients);
-        Record {
-            client,
-            tick: index as u32 + 1,
-            event,
+    let mut records = Vec::new();
+    for (tick, batch) in (1..).zip(text.split('|')) {
+        for word in batch.split_whitespace() {
+            let (client, event) = parse_event(word, &mut clients);
+            records.push(Record {
+                client,
+                tick,
+                event,
+            });
         }
-    };
-    text.split_whitespace().enumerate().map(event_at).collect()
+    }
+    records
 }
 
 /// The clients of the operations that have been called and not returned, by name: "A7", "Ra".
@@ -75,7 +85,7 @@ fn number(text: &str) -> u32 {
 
 #[cfg(test)]
 mod tests {
-    use super::run;
+    use super::{run, run_in_batches};
     use crate::model::record::{call_add, call_remove, return_add, return_empty, return_value};
 
     #[test]
@@ -89,6 +99,19 @@ mod tests {
                 call_remove(3, 4),
                 return_empty(3, 5),
                 return_value(2, 6, 7),
+            ]
+        );
+    }
+
+    #[test]
+    fn the_tick_rises_where_a_bar_stands() {
+        assert_eq!(
+            run_in_batches("A7( R( | A7) R7)"),
+            [
+                call_add(1, 1, 7),
+                call_remove(2, 1),
+                return_add(1, 2),
+                return_value(2, 2, 7),
             ]
         );
     }

@@ -4,6 +4,7 @@ use crate::hex::hex;
 use crate::logs::chain::{chain, Last};
 use crate::logs::insertion::with_empty_removes;
 use crate::logs::notation::run;
+use crate::logs::ticks::rising;
 use crate::model::record::{call_add, call_remove, return_add, return_empty, return_value, Record};
 use crate::model::writer::log;
 use crate::{refused, Answer};
@@ -64,7 +65,8 @@ pub fn pending_adds(n: usize) -> Vec<Record> {
         .collect()
 }
 
-/// Half of the records call, alternately add and remove, and the other half return, a client each.
+/// Half of the records call, alternately add and remove, and the other half return, a client each:
+/// all at one tick, and at the next.
 pub fn calls_then_returns(n: usize) -> Vec<Record> {
     let half = n / 2;
     let calls = (0..half).map(|i| match i % 2 {
@@ -78,7 +80,7 @@ pub fn calls_then_returns(n: usize) -> Vec<Record> {
     calls.chain(returns).collect()
 }
 
-/// A log for each refusal, 1 to 10.
+/// A log for each refusal of a log, in the order in which they are tested: 1 to 7, 31, 8 to 10.
 pub fn refusals() -> Vec<(Vec<u8>, Answer)> {
     let add = call_add(1, 5, 1);
     vec![
@@ -89,6 +91,10 @@ pub fn refusals() -> Vec<(Vec<u8>, Answer)> {
         (hex("01000100"), refused(5, 0)),
         (log(&[add, call_add(2, 4, 2)]), refused(6, 1)),
         (log(&[add, call_remove(1, 5)]), refused(7, 1)),
+        (
+            log(&[add, return_add(1, 5), call_remove(1, 5)]),
+            refused(31, 2),
+        ),
         (log(&[add, return_empty(1, 5)]), refused(8, 1)),
         (log(&run("A7( A7) A7(")), refused(9, 2)),
         (log(&run("A7( A7) R( R7) R(")), refused(10, 4)),
@@ -134,7 +140,7 @@ pub const REFUSED_BEHIND_OPEN_ADD: [(&str, u32); 14] = [
 pub fn adds_then_removes(count: u32, taken: impl Iterator<Item = u32>) -> Vec<Record> {
     let adds = (0..count).flat_map(|value| [call_add(1, 1, value), return_add(1, 1)]);
     let removes = taken.flat_map(|value| [call_remove(1, 1), return_value(1, 1, value)]);
-    adds.chain(removes).collect()
+    rising(&adds.chain(removes).collect::<Vec<_>>())
 }
 
 /// Adds that never return, a client each, then removes one after the other that take these values.
@@ -147,7 +153,7 @@ pub fn pending_adds_removed(count: u16, taken: impl Iterator<Item = u16>) -> Vec
             return_value(client, 1, u32::from(value)),
         ]
     });
-    adds.chain(removes).collect()
+    rising(&adds.chain(removes).collect::<Vec<_>>())
 }
 
 /// A log of the most records with a false empty remove that lists all of its adds, so that its

@@ -5,6 +5,7 @@ use std::collections::{HashMap, VecDeque};
 
 use crate::logs::clients::{clients_apart, new_client};
 use crate::logs::slots::Slots;
+use crate::logs::ticks::in_batches;
 use crate::model::history::{operations, Action, Operation};
 use crate::model::record::{
     call_add, call_remove, return_add, return_empty, return_value, Event, Record, Removed,
@@ -36,7 +37,8 @@ pub fn simulate(workers: u16, clients: Clients, n: usize, seed: u64) -> Vec<Reco
 }
 
 /// A run of a correct queue with `workers` clients at work at once and `n` records, n even. Every
-/// operation returns. Each takes effect at some moment between its call and its return.
+/// operation returns. Each takes effect at some moment between its call and its return. Ticks rise
+/// with every record, by more or less.
 pub fn simulate_run(workers: u16, clients: Clients, n: usize, seed: u64) -> Run {
     simulate_load(Load::Even, workers, clients, n, seed)
 }
@@ -95,6 +97,16 @@ pub fn runs_with_shared_slots() -> Vec<Run> {
     runs
 }
 
+/// The runs of all sizes in small and in large batches.
+pub fn runs_in_batches() -> Vec<Run> {
+    let mut random = Random::new(221);
+    let runs = runs_of_all_sizes()
+        .into_iter()
+        .zip([3, 40].into_iter().cycle());
+    runs.map(|(run, about)| run.in_batches(about, &mut random))
+        .collect()
+}
+
 /// What a simulation leaves.
 #[derive(Clone, Default)]
 pub struct Run {
@@ -129,16 +141,26 @@ impl Run {
     pub fn drained(&self) -> Run {
         let mut run = self.clone();
         let client = new_client(&self.records);
-        let tick = run.records.last().map_or(0, |record| record.tick);
+        let mut ticks = run.records.last().map_or(0, |record| record.tick + 1)..;
+        let mut next_tick = || ticks.next().expect("ticks enough");
         let operations = operations(&self.records);
         for (number, value) in
             (operations.len() as u16..).zip(left_in_queue(&operations, &run.order))
         {
-            run.records.push(call_remove(client, tick));
-            run.records.push(return_value(client, tick, value));
+            run.records.push(call_remove(client, next_tick()));
+            run.records.push(return_value(client, next_tick(), value));
             run.order.push(number);
         }
         run
+    }
+
+    /// The run as a recorder gives it that collects records in batches of about so many, each with
+    /// one tick. Less precedes than before, so the order stays legal.
+    pub fn in_batches(&self, about: usize, random: &mut Random) -> Run {
+        Run {
+            records: in_batches(&self.records, about, random),
+            order: self.order.clone(),
+        }
     }
 
     /// The run with its clients numbered that far apart, as far as 16 bits allow.
@@ -195,7 +217,7 @@ impl Simulation {
     /// Lets a worker call if it is idle and `n` records leave room for the call and the return;
     /// or else lets its operation take effect, or else return.
     fn step(&mut self, worker: &mut Worker, clients: Clients, n: usize, random: &mut Random) {
-        self.tick += random.below(3) as u32;
+        self.tick += 1 + random.below(3) as u32;
         worker.work = match worker.work.take() {
             None if 2 * self.calls < n => {
                 worker.number = self.calls as u16;

@@ -1,7 +1,9 @@
 //! All legal orders of a short log, found in another way than the test of one order: every
 //! operation takes effect at one moment between its call and its return, and a pending add behind
-//! its call or never. A queue is run along the records and all moments are tried. What a remove
-//! takes is held against the log when it returns; nothing here knows which operation precedes which.
+//! its call or never. A queue is run along the ticks and all moments are tried. Within a tick all
+//! operations are called that the log calls there, then some take effect, and then those return that
+//! the log returns there. What a remove takes is held against the log when it returns; nothing here
+//! knows which operation precedes which.
 
 use std::collections::{BTreeMap, BTreeSet};
 
@@ -10,12 +12,20 @@ use crate::model::record::{Event, Record, Removed};
 /// The legal orders of a readable log.
 pub fn linearizations(records: &[Record]) -> BTreeSet<Vec<u16>> {
     let mut states = BTreeSet::from([State::default()]);
-    for record in records {
-        let moved_on = with_effects(states);
-        states = moved_on.iter().filter_map(|s| s.after(record)).collect();
+    for batch in records.chunk_by(|one, next| one.tick == next.tick) {
+        let is_call = |record: &&Record| record.event.is_call();
+        let (calls, returns): (Vec<&Record>, Vec<&Record>) = batch.iter().partition(is_call);
+        let called = behind_all(states, &calls);
+        states = behind_all(with_effects(called), &returns);
     }
     let ended = with_effects(states);
     ended.into_iter().map(|state| state.order).collect()
+}
+
+/// What these states become behind the records.
+fn behind_all(states: BTreeSet<State>, records: &[&Record]) -> BTreeSet<State> {
+    let behind = |state: State| records.iter().try_fold(state, |s, record| s.after(record));
+    states.into_iter().filter_map(behind).collect()
 }
 
 /// These states and all that they become when operations take effect, one after the other.
@@ -30,7 +40,7 @@ fn with_effects(states: BTreeSet<State>) -> BTreeSet<State> {
     all
 }
 
-/// How things stand between two records.
+/// How things stand at some moment.
 #[derive(Clone, Default, PartialEq, Eq, PartialOrd, Ord)]
 struct State {
     /// The operations that have taken effect, in that order.
@@ -116,13 +126,22 @@ fn work_returned_by(event: Event) -> Work {
 #[cfg(test)]
 mod tests {
     use super::linearizations;
-    use crate::logs::notation::run;
+    use crate::logs::notation::{run, run_in_batches};
 
     #[test]
     fn every_order_is_found() {
         let found = linearizations(&run("A1( A2( R( R2)"));
         let orders: Vec<Vec<u16>> = found.into_iter().collect();
         assert_eq!(orders, [vec![1, 0, 2], vec![1, 2], vec![1, 2, 0]]);
+    }
+
+    #[test]
+    fn operations_of_one_tick_come_in_any_order() {
+        let found = linearizations(&run_in_batches("A1( A1) A2( A2)"));
+        let orders: Vec<Vec<u16>> = found.into_iter().collect();
+        assert_eq!(orders, [[0, 1], [1, 0]]);
+        let apart = linearizations(&run_in_batches("A1( A1) | A2( A2)"));
+        assert_eq!(apart.into_iter().collect::<Vec<_>>(), [[0, 1]]);
     }
 
     #[test]

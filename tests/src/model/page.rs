@@ -61,12 +61,14 @@ fn label(operation: &Operation) -> String {
 }
 
 /// "# from call to return, both included, or to the last record for an open operation, else a dot.
-/// Columns behind the last record are spaces."
+/// Columns behind the last record are spaces." The columns are the records as they stand, whatever
+/// their ticks are.
 fn mark(operation: &Operation, record: usize, records: usize) -> char {
-    let last = operation.returned.unwrap_or(records - 1);
+    let first = operation.call.index;
+    let last = operation.returned.map_or(records - 1, |r| r.index);
     match record {
         _ if record >= records => ' ',
-        _ if operation.call <= record && record <= last => '#',
+        _ if first <= record && record <= last => '#',
         _ => '.',
     }
 }

@@ -31,9 +31,9 @@ fn kept(records: &[Record], such: impl Fn(usize, &Operation) -> bool) -> Vec<Rec
     let mut keep = vec![false; records.len()];
     for (number, operation) in operations(records).iter().enumerate() {
         let is_kept = such(number, operation);
-        keep[operation.call] = is_kept;
+        keep[operation.call.index] = is_kept;
         if let Some(returned) = operation.returned {
-            keep[returned] = is_kept;
+            keep[returned.index] = is_kept;
         }
     }
     let places = (0..records.len()).filter(|&at| keep[at]);

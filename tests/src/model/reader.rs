@@ -29,6 +29,8 @@ struct Past {
     last_tick: u32,
     /// For each client with an open call: its operation and the index of the call.
     open: HashMap<u16, (Operation, usize)>,
+    /// For each client that has returned: the tick of its last return.
+    last_return: HashMap<u16, u32>,
     added: HashSet<u32>,
 }
 
@@ -124,7 +126,7 @@ fn decode(body: &[u8]) -> Result<Record, u32> {
     })
 }
 
-/// Holds a record against those before it, in the order 6, 7, 8, 9.
+/// Holds a record against those before it, in the order 6, 7, 31, 8, 9.
 fn admit(past: &mut Past, record: Record, index: usize) -> Result<(), u32> {
     if record.tick < past.last_tick {
         return Err(6);
@@ -132,28 +134,40 @@ fn admit(past: &mut Past, record: Record, index: usize) -> Result<(), u32> {
     past.last_tick = record.tick;
     match record.event {
         Event::CallAdd(value) => {
-            call(past, record.client, Operation::Add, index)?;
+            call(past, record, Operation::Add, index)?;
             if !past.added.insert(value) {
                 return Err(9);
             }
             Ok(())
         }
-        Event::CallRemove => call(past, record.client, Operation::Remove, index),
-        Event::ReturnAdd => close(past, record.client, Operation::Add),
-        Event::ReturnRemove(_) => close(past, record.client, Operation::Remove),
+        Event::CallRemove => call(past, record, Operation::Remove, index),
+        Event::ReturnAdd => close(past, record, Operation::Add),
+        Event::ReturnRemove(_) => close(past, record, Operation::Remove),
     }
 }
 
-fn call(past: &mut Past, client: u16, operation: Operation, index: usize) -> Result<(), u32> {
-    match past.open.insert(client, (operation, index)) {
-        Some(_) => Err(7),
-        None => Ok(()),
+/// "It refuses with 31 a call whose tick equals that of its client's last return, checked right after
+/// 7."
+fn call(past: &mut Past, record: Record, operation: Operation, index: usize) -> Result<(), u32> {
+    if past
+        .open
+        .insert(record.client, (operation, index))
+        .is_some()
+    {
+        return Err(7);
+    }
+    match past.last_return.get(&record.client) {
+        Some(&tick) if tick == record.tick => Err(31),
+        _ => Ok(()),
     }
 }
 
-fn close(past: &mut Past, client: u16, operation: Operation) -> Result<(), u32> {
-    match past.open.remove(&client) {
-        Some((open, _)) if open == operation => Ok(()),
+fn close(past: &mut Past, record: Record, operation: Operation) -> Result<(), u32> {
+    match past.open.remove(&record.client) {
+        Some((open, _)) if open == operation => {
+            past.last_return.insert(record.client, record.tick);
+            Ok(())
+        }
         _ => Err(8),
     }
 }

@@ -105,18 +105,35 @@ fn bits(operations: &[Operation], such: impl Fn(&Operation) -> bool) -> u32 {
 #[cfg(test)]
 mod tests {
     use super::has_linearization;
-    use crate::logs::enumerate::every_log;
+    use crate::logs::enumerate::{every_log, every_log_with_joined_ticks};
     use crate::model::all_linearizations::linearizations;
     use crate::model::history::operations;
+    use crate::model::reader;
+    use crate::model::record::Record;
+    use crate::model::writer::log;
+
+    /// Whether the log has an order, by the search and by trying all moments.
+    fn compared(records: &[Record]) -> bool {
+        let has = has_linearization(&operations(records));
+        assert_eq!(has, !linearizations(records).is_empty(), "{records:?}");
+        has
+    }
 
     #[test]
     fn it_finds_an_order_exactly_where_trying_all_moments_does() {
         let mut found = [0, 0];
-        every_log(6, &mut |records| {
-            let has = has_linearization(&operations(records));
-            assert_eq!(has, !linearizations(records).is_empty(), "{records:?}");
-            found[usize::from(has)] += 1;
-        });
+        every_log(6, &mut |records| found[usize::from(compared(records))] += 1);
         assert_eq!(found, [4591, 2093]);
+    }
+
+    #[test]
+    fn it_does_so_with_ticks_joined_in_every_way() {
+        let mut found = [0, 0];
+        every_log_with_joined_ticks(5, &mut |records| {
+            if reader::read(&log(records)).is_ok() {
+                found[usize::from(compared(records))] += 1;
+            }
+        });
+        assert_eq!(found, [5250, 4392]);
     }
 }

@@ -51,7 +51,7 @@ struct Table<'a> {
 }
 
 /// A value whose add has returned: it covers the gaps from `from` to just before `reach`. Gap g
-/// lies between the records g and g + 1.
+/// lies between the records at the places g and g + 1.
 struct Cover {
     add: u16,
     from: usize,
@@ -195,8 +195,8 @@ impl<'a> Table<'a> {
             let remove = self.removes_of(value).first();
             Some(Cover {
                 add,
-                from: self.operation(add).returned?,
-                reach: remove.map_or(TO_THE_END, |&remove| self.operation(remove).call),
+                from: self.operation(add).returned?.place,
+                reach: remove.map_or(TO_THE_END, |&r| self.operation(r).call.place),
             })
         };
         self.adds.iter().filter_map(cover).collect()
@@ -209,8 +209,8 @@ impl<'a> Table<'a> {
 fn chain(remove: &Operation, covers: &[Cover]) -> Option<Vec<u16>> {
     let returned = remove.returned.expect("a remove of a readable log returns");
     let mut chain = Vec::new();
-    let mut first_beyond = remove.call;
-    for gap in remove.call..returned {
+    let mut first_beyond = remove.call.place;
+    for gap in remove.call.place..returned.place {
         let covering = covers.iter().filter(|c| c.from <= gap && gap < c.reach);
         let furthest = covering.min_by_key(|c| (TO_THE_END - c.reach, c.add))?;
         if gap == first_beyond {
@@ -224,11 +224,15 @@ fn chain(remove: &Operation, covers: &[Cover]) -> Option<Vec<u16>> {
 #[cfg(test)]
 mod tests {
     use super::first_violation;
-    use crate::logs::enumerate::{every_log, every_log_of_paired_operations};
-    use crate::logs::notation::run;
+    use crate::logs::enumerate::{
+        every_log, every_log_of_paired_operations, every_log_with_joined_ticks,
+    };
+    use crate::logs::notation::{run, run_in_batches};
     use crate::model::history::operations;
+    use crate::model::reader;
     use crate::model::record::Record;
     use crate::model::search::has_linearization;
+    use crate::model::writer::log;
 
     fn first(text: &str) -> Option<(u8, Vec<u16>)> {
         let violation = first_violation(&operations(&run(text)))?;
@@ -263,12 +267,27 @@ mod tests {
         };
         every_log(6, &mut compare);
         every_log_of_paired_operations(8, &mut compare);
-        assert_eq!(logs, 6684 + 7045);
+        every_log_with_joined_ticks(5, &mut |records| {
+            if reader::read(&log(records)).is_ok() {
+                compare(records);
+            }
+        });
+        assert_eq!(logs, 6684 + 7045 + 9642);
     }
 
     #[test]
     fn the_lowest_number_comes_before_the_lowest_list() {
         assert_eq!(first("A0( A0) R( R-) R( R9)"), Some((1, vec![2])));
+    }
+
+    #[test]
+    fn within_a_tick_calls_are_taken_before_returns() {
+        let first = |text| first_violation(&operations(&run_in_batches(text)));
+        let listed = |text| first(text).map(|violation| violation.operations);
+        assert_eq!(listed("A1( A1) | R( R-)"), Some(vec![1, 0]));
+        assert_eq!(listed("A1( | A1) R( R-)"), None);
+        let furthest = "A1( A2( A1) A2) | Re( Re-) | Ra( Ra1) Rb( Rb2)";
+        assert_eq!(listed(furthest), Some(vec![2, 1]));
     }
 
     #[test]

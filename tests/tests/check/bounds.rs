@@ -115,9 +115,9 @@ fn the_least_and_the_greatest_clients_ticks_and_values() {
         for value in [0, 1, 255, 65_535, 65_536, 1 << 31, u32::MAX] {
             let bytes = log(&[
                 call_add(client, 0, value),
-                return_add(client, u32::MAX),
-                call_remove(client, u32::MAX),
-                return_value(client, u32::MAX, value),
+                return_add(client, 0),
+                call_remove(client, 1),
+                return_value(client, u32::MAX - 1, value),
                 call_remove(client, u32::MAX),
                 return_empty(client, u32::MAX),
             ]);

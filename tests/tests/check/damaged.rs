@@ -7,6 +7,7 @@ use yauponroof_tests::logs::damage::telling_values;
 use yauponroof_tests::logs::notation::run;
 use yauponroof_tests::logs::samples::{calls_then_returns, pending_adds, RUNS};
 use yauponroof_tests::logs::simulation::{simulate, Clients};
+use yauponroof_tests::logs::ticks::in_batches;
 use yauponroof_tests::model::reader::HEADER;
 use yauponroof_tests::model::record::{
     call_add, call_remove, return_add, return_empty, return_value, Event, Record,
@@ -20,7 +21,7 @@ fn clients_used_again() -> Vec<Record> {
     vec![
         call_add(1, 5, 0),
         return_add(1, 5),
-        call_remove(1, 5),
+        call_remove(1, 6),
         call_add(2, 256, u32::MAX),
         return_value(1, 257, 0),
         call_remove(1, u32::MAX),
@@ -28,13 +29,19 @@ fn clients_used_again() -> Vec<Record> {
     ]
 }
 
-/// Document 01's runs, one by hand and simulated ones, of at most 14 records.
+/// Document 01's runs, one by hand and simulated ones, some in batches, of at most 14 records.
 fn short_logs() -> Vec<Vec<Record>> {
     let mut logs: Vec<Vec<Record>> = RUNS.iter().map(|(text, ..)| run(text)).collect();
     logs.push(clients_used_again());
-    for seed in 0..4 {
-        logs.push(simulate(2, Clients::Reused, 14, seed));
-        logs.push(simulate(3, Clients::OnePerOperation, 10, seed));
+    let mut random = Random::new(222);
+    for seed in 0..2 {
+        for records in [
+            simulate(2, Clients::Reused, 14, seed),
+            simulate(3, Clients::OnePerOperation, 10, seed),
+        ] {
+            logs.push(in_batches(&records, 3, &mut random));
+            logs.push(records);
+        }
     }
     logs
 }
@@ -43,7 +50,11 @@ fn short_logs() -> Vec<Vec<Record>> {
 fn medium_logs() -> Vec<Vec<Record>> {
     vec![
         simulate(2, Clients::Reused, 200, 11),
-        simulate(8, Clients::Reused, 200, 12),
+        in_batches(
+            &simulate(8, Clients::Reused, 200, 12),
+            6,
+            &mut Random::new(223),
+        ),
         simulate(64, Clients::Reused, 256, 13),
         simulate(8, Clients::OnePerOperation, 200, 14),
         pending_adds(100),
@@ -54,8 +65,12 @@ fn medium_logs() -> Vec<Vec<Record>> {
 /// Logs of the most records.
 fn long_logs() -> Vec<Vec<Record>> {
     vec![
-        simulate(8, Clients::Reused, 1024, 21),
         simulate(64, Clients::OnePerOperation, 1024, 22),
+        in_batches(
+            &simulate(8, Clients::Reused, 1024, 21),
+            6,
+            &mut Random::new(224),
+        ),
     ]
 }
 
@@ -147,6 +162,7 @@ fn short_logs_damaged_in_every_way() {
     tally.assert_at_least([
         60_000, 30_000, 4000, 4000, 30_000, 6000, 100_000, 600, 60_000, 80, 25,
     ]);
+    tally.assert_seen(31, 30);
     let archives = tally.archives();
     archives.assert_at_least([10_000, 15_000, 300, 300, 600, 300, 900]);
     tally.pages().assert_at_least(&[(0, 25_000)]);
@@ -164,6 +180,7 @@ fn medium_logs_damaged_at_every_byte() {
     tally.assert_at_least([
         25_000, 8000, 40, 25, 4000, 10_000, 30_000, 4000, 15_000, 300, 80,
     ]);
+    tally.assert_seen(31, 80);
     let archives = tally.archives();
     archives.assert_at_least([1000, 1000, 0, 0, 0, 0, 0]);
     tally.pages().assert_at_least(&[(30, 2000)]);
@@ -186,6 +203,7 @@ fn long_logs_changed_at_every_byte() {
         compare_changes(&records, few_values, &mut tally);
     }
     tally.assert_at_least([10_000, 30, 6, 6, 2500, 5000, 15_000, 2000, 7000, 0, 0]);
+    tally.assert_seen(31, 100);
 }
 
 #[test]
@@ -196,17 +214,19 @@ fn long_logs_with_records_exchanged_lost_or_doubled() {
         compare_lost_and_doubled(&records, &mut tally);
     }
     tally.assert_at_least([2000, 0, 0, 2048, 0, 0, 1000, 400, 700, 0, 200]);
+    tally.assert_seen(31, 70);
 }
 
 /// Puts a fault somewhere that only the records before it show.
 fn inject_fault(records: &mut Vec<Record>, random: &mut Random) {
     let at = random.below(records.len());
     let other = random.below(records.len());
-    match random.below(5) {
+    match random.below(6) {
         0 => records[at].tick = records[at].tick.saturating_sub(4),
         1 => records[at].client = records[other].client,
         2 => records[at].event = records[other].event,
         3 => add_again(records, at, other),
+        4 => join_back(records, at),
         _ => {
             records.remove(at);
         }
@@ -217,6 +237,16 @@ fn inject_fault(records: &mut Vec<Record>, random: &mut Random) {
 fn add_again(records: &mut [Record], at: usize, other: usize) {
     if let (Event::CallAdd(_), Event::CallAdd(value)) = (records[at].event, records[other].event) {
         records[at].event = Event::CallAdd(value);
+    }
+}
+
+/// Gives the record, and all before it as far as the last one of its client, the tick of that one. If
+/// the record is a call, its client has returned at that tick.
+fn join_back(records: &mut [Record], at: usize) {
+    let client = records[at].client;
+    if let Some(last) = (0..at).rfind(|&before| records[before].client == client) {
+        let tick = records[last].tick;
+        records[last..=at].iter_mut().for_each(|r| r.tick = tick);
     }
 }
 
@@ -234,6 +264,7 @@ fn long_logs_with_faults_anywhere() {
         }
     }
     tally.assert_at_least([800, 0, 0, 0, 0, 0, 800, 700, 1500, 120, 80]);
+    tally.assert_seen(31, 200);
 }
 
 #[test]
@@ -254,4 +285,5 @@ fn a_falling_tick_is_told_wherever_it_falls() {
         assert_eq!(at, sound.len());
     }
     tally.assert_at_least([500, 0, 0, 0, 0, 0, 3000, 0, 0, 0, 0]);
+    tally.assert_seen(31, 15);
 }

@@ -5,4 +5,5 @@ mod damaged;
 mod document;
 mod exhaustive;
 mod lent_bytes;
+mod repeated_ticks;
 mod slots;

@@ -71,7 +71,7 @@ fn a_value_added_again_when_it_was_removed() {
     let slots = Slots::default();
     let records = slots.shared(&adds_then_removes(255, 0..255));
     for value in [0, 1, 100, 254] {
-        let again = call_add(2, 1, slots.values[value]);
+        let again = call_add(2, u32::MAX, slots.values[value]);
         let answer = Tally::of_all_entries().compare(&log(&[&records[..], &[again]].concat()));
         assert_eq!(answer, refused(9, 1020), "value number {value}");
     }
@@ -98,11 +98,17 @@ fn clients_of_one_slot_are_told_apart() {
         compare(&[return_empty(client, 1)], refused(8, N));
         compare(&[returned], Answer::Accepted(N));
         compare(&[returned, returned], refused(8, N + 1));
-        compare(&[returned, call_remove(client, 1)], refused(10, N + 1));
-        compare(&[returned, call_add(client, 1, 7)], Answer::Accepted(N + 1));
+        compare(&[returned, call_remove(client, 1)], refused(31, N + 1));
+        compare(&[returned, call_remove(client, 2)], refused(10, N + 1));
+        compare(&[returned, call_add(client, 2, 7)], Answer::Accepted(N + 1));
+        compare(
+            &[returned, call_add(stranger, 1, 7)],
+            Answer::Accepted(N + 1),
+        );
     }
     compare(&[return_add(stranger, 1)], refused(8, N));
     compare(&[return_value(stranger, 1, 1000)], refused(8, N));
     compare(&[call_add(stranger, 1, 7)], Answer::Accepted(N + 1));
-    tally.assert_at_least([251, 0, 0, 0, 0, 0, 0, 250, 252, 0, 125]);
+    tally.assert_at_least([376, 0, 0, 0, 0, 0, 0, 250, 252, 0, 125]);
+    tally.assert_seen(31, 125);
 }

@@ -10,6 +10,7 @@ use yauponroof_tests::logs::enumerate::every_log;
 use yauponroof_tests::logs::insertion::with_run;
 use yauponroof_tests::logs::notation::run;
 use yauponroof_tests::logs::samples::{longest_false_empty, pending_adds, Verdict, RUNS};
+use yauponroof_tests::logs::ticks::rising;
 use yauponroof_tests::model::history::operations;
 use yauponroof_tests::model::reader::{LOG_MAX, MAX_RECORDS};
 use yauponroof_tests::model::record::{call_remove, return_value, Record};
@@ -73,7 +74,7 @@ fn a_short_excerpt_of_a_long_log() {
 /// A remove that returns 9, so often that it fills the log.
 fn removes_of_one_value() -> Vec<Record> {
     let remove = |i| [call_remove(i, 1), return_value(i, 1, 9)];
-    (0..512).flat_map(remove).collect()
+    rising(&(0..512).flat_map(remove).collect::<Vec<_>>())
 }
 
 #[test]

@@ -137,8 +137,8 @@ fn the_value_0_is_kept_as_any_other() {
 #[test]
 fn clients_and_ticks_stay_as_they_were() {
     let records = [
-        call_remove(9, 3),
-        return_empty(9, 3),
+        call_remove(9, 2),
+        return_empty(9, 2),
         call_add(9, 3, 70_000),
         call_add(65_535, 500, 5),
         return_add(9, 500),

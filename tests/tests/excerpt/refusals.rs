@@ -1,5 +1,5 @@
-//! The refusals of the excerpt in their order: those of the log, 1 to 10, then 23 where the verdict
-//! is an order, then a buffer that is too short. A refused call writes nothing.
+//! The refusals of the excerpt in their order: those of the log, 1 to 10 and 31, then 23 where the
+//! verdict is an order, then a buffer that is too short. A refused call writes nothing.
 
 use yauponroof_tests::library::excerpt;
 use yauponroof_tests::library::guarded::written_twice;
@@ -23,7 +23,7 @@ fn the_refusals_of_the_log_come_first() {
             compared += 1;
         }
     }
-    assert_eq!(compared, 10 * 15);
+    assert_eq!(compared, 11 * 15);
 }
 
 #[test]

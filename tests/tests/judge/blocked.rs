@@ -5,11 +5,17 @@
 use yauponroof_tests::compare::archive::{verdict_of, Archives};
 use yauponroof_tests::logs::changes::near_outcomes_exchanged;
 use yauponroof_tests::logs::simulation::{simulate_load, Clients, Load, Run};
+use yauponroof_tests::logs::ticks::rising;
 use yauponroof_tests::model::history::{operations, Action};
 use yauponroof_tests::model::record::{
     call_add, call_remove, return_add, return_value, Record, Removed,
 };
 use yauponroof_tests::random::Random;
+
+/// The verdict on the log of these records, whose ticks are made to rise.
+fn verdict_on(records: &[Record]) -> (u8, Vec<u16>) {
+    verdict_of(&rising(records))
+}
 
 /// Add 0, so many adds that never return, and another add, which returns or not.
 fn adds_with_pending_between(between: u16, returned: bool) -> Vec<Record> {
@@ -32,10 +38,10 @@ fn adds_that_never_return_between_the_two() {
             let (b, remove_b) = (between + 1, between + 2);
             let mut records = adds_with_pending_between(between, returned);
             records.extend(remove(b));
-            assert_eq!(verdict_of(&records), (4, vec![0, b, remove_b]));
+            assert_eq!(verdict_on(&records), (4, vec![0, b, remove_b]));
             records.extend(remove(0));
             let expected = (5, vec![0, b, remove_b, remove_b + 1]);
-            assert_eq!(verdict_of(&records), expected);
+            assert_eq!(verdict_on(&records), expected);
         }
     }
 }
@@ -49,10 +55,10 @@ fn the_lowest_of_many_adds_that_overtook() {
         let removes = (1..=b).rev().flat_map(remove);
         records.extend(removes);
         // The remove of value 1 is the last.
-        assert_eq!(verdict_of(&records), (4, vec![0, 1, 2 * b]));
+        assert_eq!(verdict_on(&records), (4, vec![0, 1, 2 * b]));
         records.extend(remove(0));
         let expected = (5, vec![0, 1, 2 * b, 2 * b + 1]);
-        assert_eq!(verdict_of(&records), expected);
+        assert_eq!(verdict_on(&records), expected);
     }
 }
 
@@ -77,8 +83,8 @@ fn without_some_removes(records: &[Record], one_in: usize, random: &mut Random) 
     for operation in operations(records) {
         if let Action::Remove(Removed::Value(_)) = operation.action {
             let is_kept = random.below(one_in) > 0;
-            kept[operation.call] = is_kept;
-            kept[operation.returned.expect("a remove returns")] = is_kept;
+            kept[operation.call.index] = is_kept;
+            kept[operation.returned.expect("a remove returns").index] = is_kept;
         }
     }
     let with_marks = records.iter().zip(kept);

@@ -6,6 +6,7 @@ use yauponroof_tests::logs::insertion::with_run;
 use yauponroof_tests::logs::samples::{
     adds_then_removes, calls_then_returns, pending_adds, pending_adds_removed, Verdict, RUNS,
 };
+use yauponroof_tests::logs::ticks::rising;
 use yauponroof_tests::model::reader::MAX_RECORDS;
 use yauponroof_tests::model::record::{
     call_add, call_remove, return_add, return_empty, return_value, Record,
@@ -94,12 +95,12 @@ fn one_after_the_other(count: u16) -> Vec<Record> {
 #[test]
 fn empty_removes_that_fill_the_log() {
     for empty_removes in [all_at_once, one_after_the_other] {
-        let (verdict, order) = verdict_of(&empty_removes(512));
+        let (verdict, order) = verdict_of(&rising(&empty_removes(512)));
         assert_eq!((verdict, order.len()), (ORDER, 512));
         // Behind an add that has returned all of them are false.
         let add = vec![call_add(600, 1, 0), return_add(600, 1)];
         let records = [add, empty_removes(511)].concat();
-        assert_eq!(verdict_of(&records), (6, vec![1, 0]));
+        assert_eq!(verdict_of(&rising(&records)), (6, vec![1, 0]));
     }
 }
 
@@ -114,7 +115,7 @@ fn empty_removes_that_all_have_one_gap_in_common() {
         returns,
         vec![return_value(601, 1, 0)],
     ];
-    let (verdict, order) = verdict_of(&records.concat());
+    let (verdict, order) = verdict_of(&rising(&records.concat()));
     assert_eq!((verdict, order.len()), (ORDER, 512));
 }
 
@@ -122,10 +123,10 @@ fn empty_removes_that_all_have_one_gap_in_common() {
 fn removes_of_one_value_that_fill_the_log() {
     let removes = |count: u16| (0..count).flat_map(|i| [call_remove(i, 1), return_value(i, 1, 9)]);
     let unknown: Vec<Record> = removes(512).collect();
-    assert_eq!(verdict_of(&unknown), (1, vec![0]));
+    assert_eq!(verdict_of(&rising(&unknown)), (1, vec![0]));
     let added = [call_add(600, 1, 9), return_add(600, 1)].into_iter();
     let twice: Vec<Record> = added.chain(removes(511)).collect();
-    assert_eq!(verdict_of(&twice), (2, vec![1, 2]));
+    assert_eq!(verdict_of(&rising(&twice)), (2, vec![1, 2]));
 }
 
 #[test]

@@ -17,7 +17,9 @@ fn covered_gaps(records: &[Record]) -> Vec<bool> {
     let all = operations(records);
     let removed_at = |value| {
         let remove = Action::Remove(Removed::Value(value));
-        all.iter().find(|o| o.action == remove).map(|o| o.call)
+        all.iter()
+            .find(|o| o.action == remove)
+            .map(|o| o.call.index)
     };
     let mut covered = vec![false; records.len()];
     for operation in &all {
@@ -28,7 +30,7 @@ fn covered_gaps(records: &[Record]) -> Vec<bool> {
         } = *operation
         {
             let end = removed_at(value).unwrap_or(records.len());
-            (returned..end).for_each(|gap| covered[gap] = true);
+            (returned.index..end).for_each(|gap| covered[gap] = true);
         }
     }
     covered

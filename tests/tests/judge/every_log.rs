@@ -1,13 +1,12 @@
 //! The judge and the excerpt on all logs of few records, held against the table of patterns and the
 //! test of orders. That an order is told exactly where one exists is held against a search that
-//! knows nothing of patterns. The logs are those of `enumerate`; their ticks rise by one but for
-//! one test.
+//! knows nothing of patterns. The logs are those of `enumerate`, and their ticks rise by one;
+//! `equal_ticks` has those with equal ones.
 
 use yauponroof_tests::compare::archive::Archives;
 use yauponroof_tests::logs::enumerate::{
     every_log, every_log_of_new_clients, every_log_of_paired_operations,
 };
-use yauponroof_tests::model::record::Record;
 
 #[test]
 fn every_log_of_up_to_seven_records() {
@@ -31,24 +30,4 @@ fn every_log_of_up_to_five_paired_operations() {
     every_log_of_paired_operations(10, &mut |records| archives.compare_with_search(records));
     let seen = [179_157, 0, 0, 0, 27_534, 1397, 33_947];
     assert_eq!(archives.seen(), seen);
-}
-
-#[test]
-fn ticks_mean_nothing() {
-    let mut archives = Archives::new();
-    let steps: [fn(u32) -> u32; 4] = [|_| 0, |_| u32::MAX, |at| at / 2, |at| at << 28];
-    every_log(6, &mut |records| {
-        for step in steps {
-            let with_tick = |record: &Record| Record {
-                tick: step(record.tick),
-                ..*record
-            };
-            let changed: Vec<Record> = records.iter().map(with_tick).collect();
-            archives.compare_with_search(&changed);
-        }
-    });
-    assert_eq!(
-        archives.seen(),
-        [2093, 2787, 396, 1131, 119, 0, 158].map(|seen| 4 * seen)
-    );
 }

@@ -1,5 +1,6 @@
 //! The judge. With each log that has a pattern the excerpt is compared as well.
 
+mod batches;
 mod blocked;
 mod bounds;
 mod buffers;
@@ -8,9 +9,11 @@ mod changed_logs;
 mod clients;
 mod document;
 mod empty_removes;
+mod equal_ticks;
 mod every_log;
 mod faults;
 mod lent_buffers;
+mod one_tick;
 mod random;
 mod refusals;
 mod simulated;

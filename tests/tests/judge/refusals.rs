@@ -1,5 +1,5 @@
-//! The refusals of the judge in their order: those of the log, 1 to 10, come before a sheet that is
-//! too short. A refused call writes nothing.
+//! The refusals of the judge in their order: those of the log, 1 to 10 and 31, come before a sheet
+//! that is too short. A refused call writes nothing.
 
 use yauponroof_tests::library::guarded::written_twice;
 use yauponroof_tests::library::judge;
@@ -20,7 +20,7 @@ fn the_refusals_of_the_log_come_before_24() {
             compared += 1;
         }
     }
-    assert_eq!(compared, 10 * 14);
+    assert_eq!(compared, 11 * 14);
 }
 
 #[test]

@@ -7,6 +7,7 @@ use yauponroof_tests::logs::enumerate::every_log;
 use yauponroof_tests::logs::samples::{adds_then_removes, pending_adds};
 use yauponroof_tests::logs::simulation::runs_with_shared_slots;
 use yauponroof_tests::logs::slots::Slots;
+use yauponroof_tests::logs::ticks::rising;
 use yauponroof_tests::model::reader::MAX_RECORDS;
 use yauponroof_tests::model::record::{
     call_add, call_remove, return_add, return_value, Event, Record, Removed,
@@ -91,14 +92,14 @@ fn values_of_one_slot_that_are_removed_before_they_are_added() {
     let [remove_calls, remove_returns, add_calls, add_returns] = removes_and_adds();
     let before = [remove_calls, remove_returns, add_calls, add_returns].concat();
     assert_eq!(before.len(), MAX_RECORDS);
-    assert_eq!(verdict_of(&before), (3, vec![0, 511]));
+    assert_eq!(verdict_of(&rising(&before)), (3, vec![0, 511]));
 }
 
 #[test]
 fn values_of_one_slot_that_come_back_in_reverse_order() {
     let [remove_calls, remove_returns, add_calls, add_returns] = removes_and_adds();
     let overlapping = [remove_calls, add_calls, add_returns, remove_returns].concat();
-    let (verdict, order) = verdict_of(&overlapping);
+    let (verdict, order) = verdict_of(&rising(&overlapping));
     assert_eq!((verdict, order.len()), (ORDER, 512));
 }
 

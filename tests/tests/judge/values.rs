@@ -4,6 +4,7 @@
 use yauponroof_tests::compare::archive::Archives;
 use yauponroof_tests::library::outcomes::judged;
 use yauponroof_tests::logs::enumerate::every_log;
+use yauponroof_tests::logs::ticks::rising;
 use yauponroof_tests::model::record::{call_add, call_remove, return_add, return_value, Record};
 use yauponroof_tests::model::sheet::sheet;
 use yauponroof_tests::model::writer::log;
@@ -49,7 +50,7 @@ fn a_remove_takes_the_value_that_is_alike_in_every_bit() {
                     call_remove(1, 1),
                     return_value(1, 1, other),
                 ];
-                judged(&log(&records))
+                judged(&log(&rising(&records)))
             };
             let unknown = vec![1, 1, 0, 1, 0, 1];
             assert_eq!(removed(value), Ok(sheet(&[0, 1])), "{value}");
@@ -67,7 +68,7 @@ fn two_values_that_differ_in_one_bit_are_two() {
             for taken in [[value, other], [other, value], [other, other]] {
                 let adds = [value, other].map(|v| [call_add(1, 1, v), return_add(1, 1)]);
                 let removes = taken.map(|v| [call_remove(1, 1), return_value(1, 1, v)]);
-                archives.compare_records(&[adds, removes].concat().concat());
+                archives.compare_records(&rising(&[adds, removes].concat().concat()));
             }
         }
     }

@@ -4,6 +4,7 @@ use yauponroof_tests::compare::narrowing::compare_narrowing;
 use yauponroof_tests::library::outcomes::narrowing_made;
 use yauponroof_tests::logs::samples::{calls_then_returns, pending_adds};
 use yauponroof_tests::logs::simulation::{simulate, Clients};
+use yauponroof_tests::logs::ticks::rising;
 use yauponroof_tests::model::projection::values;
 use yauponroof_tests::model::reader::{LOG_MAX, MAX_RECORDS};
 use yauponroof_tests::model::record::{call_add, return_add, Record};
@@ -84,7 +85,8 @@ fn the_longest_lists() {
 #[test]
 fn one_value_that_is_first_or_last_in_the_log() {
     let add = |client: u16, value| [call_add(client, 1, value), return_add(client, 1)];
-    let records: Vec<Record> = (0..512).flat_map(|i| add(i, u32::from(i))).collect();
+    let adds: Vec<Record> = (0..512).flat_map(|i| add(i, u32::from(i))).collect();
+    let records = rising(&adds);
     let bytes = log(&records);
     assert_eq!(compare_narrowing(&bytes, &[0]), log(&records[..2]));
     assert_eq!(compare_narrowing(&bytes, &[511]), log(&records[1022..]));

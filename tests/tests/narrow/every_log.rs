@@ -3,7 +3,9 @@
 
 use yauponroof_tests::compare::archive::Archives;
 use yauponroof_tests::compare::narrowing::compare_narrowing;
-use yauponroof_tests::logs::enumerate::{every_log, every_log_of_new_clients};
+use yauponroof_tests::logs::enumerate::{
+    every_log, every_log_of_new_clients, every_log_with_joined_ticks,
+};
 use yauponroof_tests::model::projection::values;
 use yauponroof_tests::model::reader;
 use yauponroof_tests::model::record::Record;
@@ -66,25 +68,52 @@ fn every_log_of_up_to_six_records() {
 }
 
 #[test]
+fn every_log_of_up_to_five_records_with_ticks_joined_in_every_way() {
+    let mut narrowings = Narrowings::default();
+    every_log_with_joined_ticks(5, &mut |records| {
+        if reader::read(&log(records)).is_ok() {
+            narrowings.compare(records);
+        }
+    });
+    narrowings.assert_compared(105_026, 36_412);
+}
+
+#[test]
 fn every_log_of_up_to_seven_records_with_a_client_for_each_operation() {
     let mut narrowings = Narrowings::default();
     every_log_of_new_clients(7, &mut |records| narrowings.compare(records));
     narrowings.assert_compared(306_204, 124_385);
 }
 
+/// How many narrowings there are of the log, if its verdict is an order. All of them must have one.
+fn narrowed_orders(records: &[Record]) -> u64 {
+    let bytes = log(records);
+    if Archives::new().compare(&bytes) != ORDER {
+        return 0;
+    }
+    let subsets = subsets(&values(records));
+    for subset in &subsets {
+        let narrowed = compare_narrowing(&bytes, subset);
+        let verdict = Archives::new().compare(&narrowed);
+        assert_eq!(verdict, ORDER, "{records:?} narrowed to {subset:?}");
+    }
+    subsets.len() as u64
+}
+
 #[test]
 fn a_narrowed_order_stays_an_order() {
-    let mut narrowed_orders = 0;
-    every_log(6, &mut |records| {
-        let bytes = log(records);
-        if Archives::new().compare(&bytes) == ORDER {
-            for subset in subsets(&values(records)) {
-                let narrowed = compare_narrowing(&bytes, &subset);
-                let verdict = Archives::new().compare(&narrowed);
-                assert_eq!(verdict, ORDER, "{records:?} narrowed to {subset:?}");
-                narrowed_orders += 1;
-            }
+    let mut narrowed = 0;
+    every_log(6, &mut |records| narrowed += narrowed_orders(records));
+    assert_eq!(narrowed, 14_789);
+}
+
+#[test]
+fn a_narrowed_order_stays_an_order_with_ticks_joined_in_every_way() {
+    let mut narrowed = 0;
+    every_log_with_joined_ticks(5, &mut |records| {
+        if reader::read(&log(records)).is_ok() {
+            narrowed += narrowed_orders(records);
         }
     });
-    assert_eq!(narrowed_orders, 14_789);
+    assert_eq!(narrowed, 23_929);
 }

@@ -5,7 +5,7 @@ use yauponroof_tests::compare::narrowing::compare_narrowing;
 use yauponroof_tests::library::outcomes::narrowing_made;
 use yauponroof_tests::logs::enumerate::random_log;
 use yauponroof_tests::logs::simulation::{
-    runs_of_all_sizes, runs_with_clients_apart, runs_with_shared_slots, Run,
+    runs_in_batches, runs_of_all_sizes, runs_with_clients_apart, runs_with_shared_slots, Run,
 };
 use yauponroof_tests::model::projection::values;
 use yauponroof_tests::model::writer::log;
@@ -54,6 +54,11 @@ fn lists_by_chance_with_clients_apart() {
 #[test]
 fn lists_by_chance_with_shared_slots() {
     compare_lists(&runs_with_shared_slots());
+}
+
+#[test]
+fn lists_by_chance_in_batches() {
+    compare_lists(&runs_in_batches());
 }
 
 #[test]

@@ -1,5 +1,5 @@
-//! The refusals of narrowing in their order: those of the log, 1 to 10, come before a buffer that
-//! is too short. The list of values is never refused, nor is any verdict. A refused call writes
+//! The refusals of narrowing in their order: those of the log, 1 to 10 and 31, come before a buffer
+//! that is too short. The list of values is never refused, nor is any verdict. A refused call writes
 //! nothing.
 
 use yauponroof_tests::compare::narrowing::compare_narrowing;
@@ -25,7 +25,7 @@ fn the_refusals_of_the_log_come_before_24() {
             }
         }
     }
-    assert_eq!(compared, 10 * 4 * 7);
+    assert_eq!(compared, 11 * 4 * 7);
 }
 
 #[test]

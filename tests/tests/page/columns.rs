@@ -5,6 +5,7 @@ use yauponroof_tests::compare::page::Pages;
 use yauponroof_tests::library::outcomes::page_made;
 use yauponroof_tests::logs::samples::pending_adds;
 use yauponroof_tests::logs::simulation::{simulate, Clients};
+use yauponroof_tests::logs::ticks::at_one_tick;
 use yauponroof_tests::model::record::{
     call_add, call_remove, return_add, return_empty, return_value, Record,
 };
@@ -47,6 +48,7 @@ fn operations() -> [(Record, Record, &'static str); 3] {
     ]
 }
 
+/// All records have one tick: what stands where is shown, and not what is taken first.
 #[test]
 fn an_operation_from_every_record_to_every_later_one() {
     let mut compared = 0;
@@ -54,8 +56,7 @@ fn an_operation_from_every_record_to_every_later_one() {
         for last in 1..n {
             for first in 0..last {
                 for (call, returned, label) in operations() {
-                    let mut records = pending_adds(n);
-                    records.iter_mut().for_each(|record| record.tick = 0);
+                    let mut records = at_one_tick(&pending_adds(n), 0);
                     records[first] = call;
                     records[last] = returned;
                     let expected = line(first, label, first, last, n);

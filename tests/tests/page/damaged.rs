@@ -6,15 +6,18 @@ use yauponroof_tests::logs::damage::telling_values;
 use yauponroof_tests::logs::notation::run;
 use yauponroof_tests::logs::samples::{calls_then_returns, pending_adds, RUNS};
 use yauponroof_tests::logs::simulation::{simulate, Clients};
+use yauponroof_tests::logs::ticks::in_batches;
 use yauponroof_tests::model::page::PAGE_MAX;
 use yauponroof_tests::model::record::Record;
 use yauponroof_tests::model::writer::{log, log_with_n};
+use yauponroof_tests::random::Random;
 
 /// Document 01's runs, and some of around 63 records.
 fn logs() -> Vec<Vec<Record>> {
     let mut logs: Vec<Vec<Record>> = RUNS.iter().map(|(text, ..)| run(text)).collect();
     for n in [62, 64] {
-        logs.push(simulate(4, Clients::Reused, n, 213));
+        let run = simulate(4, Clients::Reused, n, 213);
+        logs.push(in_batches(&run, 3, &mut Random::new(232)));
         logs.push(calls_then_returns(n));
     }
     for n in [62, 63, 64] {
@@ -46,7 +49,7 @@ fn every_byte_changed() {
     // No single byte makes a remove lack its return.
     let input_list = (1..=9).map(|number| (number, 250));
     pages.assert_at_least(&input_list.collect::<Vec<_>>());
-    pages.assert_at_least(&[(0, 10_000), (24, 10_000), (30, 10_000)]);
+    pages.assert_at_least(&[(0, 10_000), (24, 10_000), (30, 10_000), (31, 80)]);
 }
 
 #[test]

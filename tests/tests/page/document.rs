@@ -3,7 +3,7 @@
 use yauponroof_tests::compare::page::Pages;
 use yauponroof_tests::hex::hex;
 use yauponroof_tests::library::outcomes::{excerpt_made, page_made};
-use yauponroof_tests::logs::notation::run;
+use yauponroof_tests::logs::notation::{run, run_in_batches};
 use yauponroof_tests::logs::samples::PROGRAM_EXAMPLE;
 use yauponroof_tests::model::record::{
     call_add, call_remove, return_add, return_empty, return_value,
@@ -179,13 +179,14 @@ fn a_line_in_its_bytes() {
 
 #[test]
 fn columns_are_records_and_not_ticks() {
-    // Two clients, one of which makes three operations; ticks that stay equal or rise by much.
+    // Three clients, one of which makes two operations; ticks that stay equal or rise by much. The
+    // remove is called behind the return of the add, though within its tick.
     let records = [
         call_add(1, 5, 0),
         return_add(1, 5),
-        call_remove(1, 5),
-        call_add(2, 256, 31),
-        return_value(1, 257, 0),
+        call_remove(2, 5),
+        call_add(3, 256, 31),
+        return_value(2, 257, 0),
         call_remove(1, u32::MAX),
         return_empty(1, u32::MAX),
     ];
@@ -196,6 +197,22 @@ fn columns_are_records_and_not_ticks() {
             "   1 R0          ..###..                                                        ",
             "   2 A31         ...####                                                        ",
             "   3 E           .....##                                                        ",
+        ],
+    );
+}
+
+#[test]
+fn columns_are_records_as_they_stand_within_a_tick() {
+    // By the ticks the remove is called before the add returns.
+    let records = run_in_batches("A1( A1) R( R-) | A2( A3( | A2) Ra( A3) Ra1)");
+    assert_lines(
+        &log(&records),
+        &[
+            "   0 A1          ##........                                                     ",
+            "   1 E           ..##......                                                     ",
+            "   2 A2          ....###...                                                     ",
+            "   3 A3          .....####.                                                     ",
+            "   4 R1          .......###                                                     ",
         ],
     );
 }

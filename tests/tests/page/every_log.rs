@@ -1,12 +1,15 @@
 //! The pages of all logs of few records, held against the model's line by line. The logs are those
-//! of `enumerate`; their ticks rise by one but for one test.
+//! of `enumerate`; their ticks rise by one but for the last tests.
 
 use yauponroof_tests::compare::page::Pages;
+use yauponroof_tests::library::outcomes::page_made;
 use yauponroof_tests::logs::enumerate::{
     every_log, every_log_of_new_clients, every_log_of_paired_operations,
 };
+use yauponroof_tests::logs::ticks::every_joining;
 use yauponroof_tests::model::record::Record;
 use yauponroof_tests::model::writer::log;
+use yauponroof_tests::Answer;
 
 fn compare(records: &[Record], pages: &mut Pages) {
     pages.compare(&log(records));
@@ -33,10 +36,25 @@ fn every_log_of_up_to_four_paired_operations() {
     assert_eq!(pages.seen(0), 7045);
 }
 
+/// The columns are the records as they stand, so that ticks change nothing.
 #[test]
-fn ticks_mean_nothing() {
+fn ticks_joined_in_every_way() {
     let mut pages = Pages::new();
-    let steps: [fn(u32) -> u32; 3] = [|_| 0, |_| u32::MAX, |at| at << 28];
+    every_log(5, &mut |records| {
+        let apart = page_made(&log(records));
+        every_joining(records, &mut |joined| {
+            if let Answer::Accepted(_) = pages.compare(&log(joined)) {
+                assert_eq!(page_made(&log(joined)), apart, "{joined:?}");
+            }
+        });
+    });
+    assert_eq!((pages.seen(0), pages.seen(31)), (9642, 2588));
+}
+
+#[test]
+fn by_how_much_ticks_rise_does_not_matter() {
+    let mut pages = Pages::new();
+    let steps: [fn(u32) -> u32; 2] = [|at| u32::MAX - 9 + at, |at| at << 28];
     every_log(5, &mut |records| {
         for step in steps {
             let with_tick = |record: &Record| Record {
@@ -47,5 +65,5 @@ fn ticks_mean_nothing() {
             compare(&changed, &mut pages);
         }
     });
-    assert_eq!(pages.seen(0), 3 * 832);
+    assert_eq!(pages.seen(0), 2 * 832);
 }

@@ -42,10 +42,11 @@ fn action(label: &str) -> Action {
 /// Asserts that the characters from 18 on are dots, then marks from the call to the return, then
 /// dots, one for each record; and then spaces.
 fn assert_columns(columns: &str, operation: &Operation, records: usize) {
-    let last = operation.returned.unwrap_or(records - 1);
+    let first = operation.call.index;
+    let last = operation.returned.map_or(records - 1, |r| r.index);
     let counts = [
-        ('.', operation.call),
-        ('#', last + 1 - operation.call),
+        ('.', first),
+        ('#', last + 1 - first),
         ('.', records - 1 - last),
         (' ', 63 - records),
     ];

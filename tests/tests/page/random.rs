@@ -9,9 +9,10 @@ use yauponroof_tests::logs::changes::{
 use yauponroof_tests::logs::clients::{clients_apart, DISTANCES};
 use yauponroof_tests::logs::enumerate::{random_log, random_log_of_paired_operations};
 use yauponroof_tests::logs::simulation::{
-    runs_of_all_sizes, runs_with_clients_apart, runs_with_shared_slots, simulate_load, Clients,
-    Load, Run,
+    runs_in_batches, runs_of_all_sizes, runs_with_clients_apart, runs_with_shared_slots,
+    simulate_load, Clients, Load, Run,
 };
+use yauponroof_tests::logs::ticks::in_batches;
 use yauponroof_tests::model::page::{LINE, PAGE_MAX};
 use yauponroof_tests::model::reader::operation_count;
 use yauponroof_tests::model::record::Record;
@@ -49,6 +50,16 @@ fn compare_made(seed: u64, times: u32, make: fn(&mut Random) -> Vec<Record>) -> 
 fn logs_by_chance() {
     let pages = compare_made(209, 20_000, |random| random_log(random.below(70), random));
     pages.assert_at_least(&[(0, 10_000), (24, 3000), (30, 2000)]);
+}
+
+#[test]
+fn logs_by_chance_in_batches() {
+    let pages = compare_made(231, 5000, |random| {
+        let records = random_log(random.below(70), random);
+        let about = 2 + random.below(20);
+        in_batches(&records, about, random)
+    });
+    pages.assert_at_least(&[(0, 2500), (24, 700), (30, 500)]);
 }
 
 #[test]
@@ -119,11 +130,12 @@ fn runs_of_all_sizes_have_a_page_or_30() {
         runs_of_all_sizes(),
         runs_with_clients_apart(),
         runs_with_shared_slots(),
+        runs_in_batches(),
     ] {
         for run in runs {
             pages.compare(&log(&run.records));
         }
     }
-    assert_eq!(pages.seen(0) + pages.seen(30), 360);
-    pages.assert_at_least(&[(0, 90), (30, 180)]);
+    assert_eq!(pages.seen(0) + pages.seen(30), 480);
+    pages.assert_at_least(&[(0, 120), (30, 240)]);
 }

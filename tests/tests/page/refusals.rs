@@ -1,5 +1,5 @@
-//! The refusals of the page in their order: those of the log, 1 to 10, then 30 for more than 63
-//! records, then a buffer that is too short. A refused call writes nothing.
+//! The refusals of the page in their order: those of the log, 1 to 10 and 31, then 30 for more than
+//! 63 records, then a buffer that is too short. A refused call writes nothing.
 
 use yauponroof_tests::library::guarded::written_twice;
 use yauponroof_tests::library::page;
@@ -25,7 +25,7 @@ fn assert_refused(log: &[u8], refusal: Answer) {
 #[test]
 fn the_refusals_of_the_log_come_before_24() {
     let refusals = refusals();
-    assert_eq!(refusals.len(), 10);
+    assert_eq!(refusals.len(), 11);
     for (log, refusal) in refusals {
         assert_refused(&log, refusal);
     }

@@ -7,6 +7,7 @@ use yauponroof_tests::hex::hex;
 use yauponroof_tests::library::replay;
 use yauponroof_tests::logs::notation::run;
 use yauponroof_tests::logs::samples::{Verdict, PROGRAM_EXAMPLE, RUNS};
+use yauponroof_tests::logs::ticks::rising;
 use yauponroof_tests::model::record::{
     call_add, call_remove, return_add, return_empty, return_value, Record,
 };
@@ -85,7 +86,7 @@ fn values_are_told_apart_by_every_bit() {
                     call_remove(1, 1),
                     return_value(1, 1, removed),
                 ];
-                legal_orders(&records)
+                legal_orders(&rising(&records))
             };
             assert_eq!(taken(value), [[0, 1]], "{value}");
             assert!(taken(value ^ 1 << bit).is_empty(), "{value}, bit {bit}");
@@ -156,7 +157,7 @@ fn one_client_makes_one_operation_after_the_other() {
         return_value(8, 1, 3),
     ];
     assert_eq!(
-        legal_orders(&records),
+        legal_orders(&rising(&records)),
         [vec![0, 1, 2, 3], vec![0, 1, 3], vec![0, 1, 3, 2]]
     );
 }

@@ -1,5 +1,6 @@
 //! Replay, which tests orders.
 
+mod batches;
 mod bounds;
 mod clients;
 mod document;

@@ -2,6 +2,7 @@
 //! that the queue agrees with every order.
 
 use yauponroof_tests::compare::replay::Replays;
+use yauponroof_tests::logs::ticks::rising;
 use yauponroof_tests::model::record::{call_add, call_remove, return_add, return_empty, Record};
 use yauponroof_tests::model::sheet::sheet;
 use yauponroof_tests::model::writer::log;
@@ -36,6 +37,7 @@ impl All {
 /// `count` operations, each of which returns right before the one that is called `width` + 1 after
 /// it. So operation i precedes j exactly if j is more than `width` above i.
 struct Staircase {
+    /// All of one tick; in the log the ticks rise.
     records: Vec<Record>,
     count: usize,
     width: usize,
@@ -59,6 +61,10 @@ impl Staircase {
         }
     }
 
+    fn log(&self) -> Vec<u8> {
+        log(&rising(&self.records))
+    }
+
     fn call_order(&self) -> Vec<u16> {
         (0..self.count as u16).collect()
     }
@@ -67,7 +73,7 @@ impl Staircase {
     fn compare_exchange(&self, first: usize, second: usize, replays: &mut Replays) {
         let mut order = self.call_order();
         order.swap(first, second);
-        let answer = replays.compare(&log(&self.records), &sheet(&order));
+        let answer = replays.compare(&self.log(), &sheet(&order));
         let legal = second - first <= self.width;
         assert_eq!(answer == YES, legal, "{first} and {second} exchanged");
     }
@@ -78,7 +84,7 @@ impl Staircase {
         let mut order = self.call_order();
         let moved = order.remove(from);
         order.insert(to, moved);
-        let answer = replays.compare(&log(&self.records), &sheet(&order));
+        let answer = replays.compare(&self.log(), &sheet(&order));
         let legal = from.abs_diff(to) <= self.width;
         assert_eq!(answer == YES, legal, "{from} moved to {to}");
     }
@@ -144,7 +150,7 @@ fn a_pending_add_stands_anywhere_behind_what_precedes_it() {
         for place in 0..=stairs.count {
             let mut order = stairs.call_order();
             order.insert(place, stairs.count as u16);
-            let answer = replays.compare(&log(&records), &sheet(&order));
+            let answer = replays.compare(&log(&rising(&records)), &sheet(&order));
             let legal = place + width + 1 >= stairs.count;
             assert_eq!(answer == YES, legal, "place {place}, width {width}");
         }
@@ -166,7 +172,8 @@ fn an_operation_that_overlaps_all_others_stands_anywhere() {
             // The long one is called second, so it has the number 1 and the others behind it rise.
             let mut order: Vec<u16> = (0..=stairs.count as u16).filter(|&o| o != 1).collect();
             order.insert(place, 1);
-            assert_eq!(replays.compare(&log(&records), &sheet(&order)), YES);
+            let log = log(&rising(&records));
+            assert_eq!(replays.compare(&log, &sheet(&order)), YES);
         }
     }
     replays.assert_answered(62, 0);

@@ -162,7 +162,9 @@ fn the_refusals_of_the_log_come_first() {
             assert_eq!(replays.compare(&log, sheet), refusal);
         }
     }
-    (1..=10).for_each(|number| replays.assert_refused(number, 15));
+    (1..=10)
+        .chain([31])
+        .for_each(|number| replays.assert_refused(number, 15));
 }
 
 #[test]

@@ -9,6 +9,7 @@ use yauponroof_tests::logs::damage::telling_values;
 use yauponroof_tests::logs::notation::run;
 use yauponroof_tests::logs::samples::RUNS;
 use yauponroof_tests::logs::simulation::{simulate, Clients};
+use yauponroof_tests::logs::ticks::in_batches;
 use yauponroof_tests::model::record::Record;
 use yauponroof_tests::model::writer::{header, record_bytes};
 use yauponroof_tests::random::Random;
@@ -79,12 +80,17 @@ fn all_bytes(records: &[Record]) -> Vec<Vec<u8>> {
     records.iter().map(record_bytes).collect()
 }
 
-/// Document 01's runs, and simulated ones of a few records.
+/// Document 01's runs, and simulated ones of a few records in batches.
 fn short_logs() -> Vec<Vec<Vec<u8>>> {
     let mut logs: Vec<_> = RUNS.iter().map(|(text, ..)| run(text)).collect();
+    let mut random = Random::new(237);
     for seed in 0..3 {
-        logs.push(simulate(2, Clients::Reused, 12, seed));
-        logs.push(simulate(3, Clients::OnePerOperation, 10, seed));
+        for records in [
+            simulate(2, Clients::Reused, 12, seed),
+            simulate(3, Clients::OnePerOperation, 10, seed),
+        ] {
+            logs.push(in_batches(&records, 3, &mut random));
+        }
     }
     logs.iter().map(|records| all_bytes(records)).collect()
 }
@@ -108,13 +114,14 @@ fn each_byte_changed() {
         (1, 1500),
         (4, 700),
         (5, 500),
-        (6, 20_000),
+        (6, 17_000),
         (7, 300),
         (8, 3500),
         (9, 20),
+        (31, 30),
     ];
     seen.assert_at_least(Entry::Feed, &feeds);
-    seen.assert_at_least(Entry::Close, &[(0, 8000), (10, 3000)]);
+    seen.assert_at_least(Entry::Close, &[(0, 7500), (10, 2700)]);
 }
 
 #[test]
@@ -149,9 +156,15 @@ fn each_record_in_the_place_of_each_other() {
             }
         }
     }
-    let feeds = [(0, 7000), (6, 800), (7, 250), (8, 500), (9, 3)];
+    let feeds = [(0, 7000), (6, 700), (7, 250), (8, 500), (31, 20)];
     seen.assert_at_least(Entry::Feed, &feeds);
-    seen.assert_at_least(Entry::Close, &[(0, 300), (10, 50)]);
+    seen.assert_at_least(Entry::Close, &[(0, 300), (10, 40)]);
+}
+
+/// A call of remove by the client of this record, at its tick.
+fn called_again(record: &[u8]) -> Vec<u8> {
+    let client_and_tick = &record[2..8];
+    [&[7, 2], client_and_tick].concat()
 }
 
 #[test]
@@ -159,28 +172,36 @@ fn longer_logs_damaged_in_one_place() {
     let mut random = Random::new(211);
     let mut seen = Seen::new();
     let logs: Vec<Vec<Vec<u8>>> = [(2, 100), (8, 150), (64, 200)]
-        .map(|(workers, n)| all_bytes(&simulate(workers, Clients::Reused, n, 212)))
+        .map(|(workers, n)| {
+            let records = simulate(workers, Clients::Reused, n, 212);
+            all_bytes(&in_batches(&records, 4, &mut random))
+        })
         .to_vec();
     for _ in 0..200 {
         let sound = random.pick(&logs).clone();
         let at = random.below(sound.len());
-        let mut damaged = random.pick(&sound).clone();
-        if random.below(2) == 0 {
-            damaged = sound[at].clone();
-            let place = random.below(damaged.len());
-            damaged[place] = *random.pick(&telling_values(damaged[place]));
-        }
+        let damaged = match random.below(3) {
+            0 => random.pick(&sound).clone(),
+            1 => {
+                let mut damaged = sound[at].clone();
+                let place = random.below(damaged.len());
+                damaged[place] = *random.pick(&telling_values(damaged[place]));
+                damaged
+            }
+            _ => called_again(&sound[at.saturating_sub(1)]),
+        };
         compare(&sound, &damaged, at, &mut seen);
     }
     let feeds = [
-        (0, 19_000),
-        (1, 8),
-        (4, 4),
-        (5, 5),
-        (6, 3500),
+        (0, 17_000),
+        (1, 5),
+        (4, 3),
+        (5, 3),
+        (6, 1000),
         (7, 70),
-        (8, 200),
+        (8, 150),
+        (31, 25),
     ];
     seen.assert_at_least(Entry::Feed, &feeds);
-    seen.assert_at_least(Entry::Close, &[(0, 40), (10, 40)]);
+    seen.assert_at_least(Entry::Close, &[(0, 30), (10, 10)]);
 }

@@ -339,11 +339,11 @@ fn a_buffer_shorter_than_the_used_bytes() {
     }
 }
 
-/// "Or the bytes are no readable log": one for each of the refusals 1 to 9.
+/// "Or the bytes are no readable log": one for each of the refusals 1 to 9 and 31.
 #[test]
 fn a_log_that_is_not_readable() {
     let mut unfit = 0;
-    for log in &refused_logs()[..9] {
+    for log in &refused_logs()[..10] {
         for stage in [OPEN, CLOSED] {
             for behind in [0, 30] {
                 assert_unfit(holding(log, stage, behind));
@@ -351,7 +351,7 @@ fn a_log_that_is_not_readable() {
             }
         }
     }
-    assert_eq!(unfit, 36);
+    assert_eq!(unfit, 40);
 }
 
 /// "Open session: readable but for 10": the same log is held by an open session, and not by a closed

@@ -8,6 +8,7 @@ mod full;
 mod lent_buffers;
 mod random;
 mod refusals;
+mod repeated_ticks;
 mod slots;
 mod threads;
 mod whole_logs;

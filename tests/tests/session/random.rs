@@ -9,23 +9,34 @@ use yauponroof_tests::logs::insertion::with_run;
 use yauponroof_tests::logs::notation::run;
 use yauponroof_tests::logs::samples::RUNS;
 use yauponroof_tests::logs::simulation::{simulate, Clients};
+use yauponroof_tests::logs::ticks::in_batches;
 use yauponroof_tests::model::record::Record;
 use yauponroof_tests::random::Random;
 
 /// A log of a few records: any, one of the document's, or a simulated one.
 fn short_plan(random: &mut Random) -> Vec<Record> {
-    match random.below(4) {
+    let records = match random.below(4) {
         0 => random_log(random.next_u64() as usize % 7, random),
         1 => simulate(2, Clients::Reused, 8, random.next_u64()),
         _ => run(random.pick(&RUNS).0),
-    }
+    };
+    with_some_batches(records, random)
 }
 
 /// A simulated log of some hundred records with one of the document's runs put in.
 fn long_plan(random: &mut Random) -> Vec<Record> {
     let sound = simulate(6, Clients::Reused, 150, random.next_u64());
     let at = random.below(sound.len() + 1);
-    with_run(&sound, &[(at, random.pick(&RUNS).0)])
+    let records = with_run(&sound, &[(at, random.pick(&RUNS).0)]);
+    with_some_batches(records, random)
+}
+
+/// The records in batches, or else as they are.
+fn with_some_batches(records: Vec<Record>, random: &mut Random) -> Vec<Record> {
+    match random.below(2) {
+        0 => in_batches(&records, 4, random),
+        _ => records,
+    }
 }
 
 #[test]
@@ -50,6 +61,7 @@ fn short_scripts() {
         (20, 15_000),
         (24, 15_000),
         (25, 20_000),
+        (31, 800),
     ];
     seen.assert_at_least(Entry::Feed, &feeds);
     let closings = [
@@ -84,7 +96,7 @@ fn long_scripts() {
     let feeds = [
         (0, 25_000),
         (1, 400),
-        (4, 40),
+        (4, 30),
         (5, 100),
         (6, 1000),
         (7, 300),
@@ -93,6 +105,7 @@ fn long_scripts() {
         (20, 100),
         (24, 1000),
         (25, 1500),
+        (31, 30),
     ];
     seen.assert_at_least(Entry::Feed, &feeds);
     let closings = [(0, 80), (10, 2000), (20, 5), (24, 50), (25, 1000)];

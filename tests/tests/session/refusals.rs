@@ -74,7 +74,7 @@ fn an_unfit_session_is_told_before_all() {
     let logs = refused_logs();
     let unfits = logs.iter().flat_map(|log| [(log, OPEN), (log, CLOSED)]);
     // With a remove without return, which is the last log, an open session fits.
-    for (log, stage) in unfits.filter(|&(log, stage)| !(stage == OPEN && log == &logs[9])) {
+    for (log, stage) in unfits.filter(|&(log, stage)| !(stage == OPEN && log == &logs[10])) {
         for behind in [0, 40] {
             let mut session = holding(log, stage, behind);
             for (record, _) in refused_feeds() {
@@ -88,7 +88,7 @@ fn an_unfit_session_is_told_before_all() {
             unfit += 1;
         }
     }
-    assert_eq!(unfit, 38);
+    assert_eq!(unfit, 42);
 }
 
 #[test]

@@ -6,6 +6,9 @@ use yauponroof_tests::{refused, Answer};
 use crate::level::landed_level;
 use crate::lines::{lines, number, vectors, Line};
 
+/// The level of the change that brings refusal 31.
+const FIRST_WITH_31: u32 = 3;
+
 #[test]
 fn the_reader_answers_as_the_vectors_say() {
     let Some(text) = vectors() else { return };
@@ -18,6 +21,7 @@ fn the_reader_answers_as_the_vectors_say() {
         }
     }
     tally.assert_at_least([1; 11]);
+    tally.assert_seen(31, u64::from(level >= FIRST_WITH_31));
 }
 
 fn hands_in_a_log(line: &Line) -> bool {

@@ -5,13 +5,13 @@ use Rattle.history.proofs.fill.fill.Tie as tie
 use Prim.Native.Nat.{_-_}
 use borrow.Author.Needs.{needs}
 use native.Mathlib.Omega.{arith}
-use Rattle.history.proofs.Reaching.{Reached, reached-start, reached-found, reached-room, reached-next, reached-end}
+use Rattle.history.proofs.Reaching.{Reached, reached-start, reached-found, reached-beside, reached-room, reached-next, reached-end}
 
 abbrev Inv-loop : tie.InvT-loop
-Inv-loop log end table₀ callers₀ chains₀ at₀ count₀ i₀ table callers chains at count i = Reached log end table₀ callers chains table at count i
+Inv-loop log end table₀ callers₀ chains₀ at₀ count₀ batch₀ i₀ table callers chains at count batch i = Reached log end table₀ callers chains table at count batch i
 
 abbrev μ-loop : tie.MeasureT-loop
-μ-loop log end table₀ callers₀ chains₀ at₀ count₀ i₀ table callers chains at count i = end - i
+μ-loop log end table₀ callers₀ chains₀ at₀ count₀ batch₀ i₀ table callers chains at count batch i = end - i
 
 loop-holds : tie.Need-loop-holds Inv-loop μ-loop
 loop-holds c = reached-start (c .before .pre .0) _ (c .before .pre .1)
@@ -28,8 +28,15 @@ returns c = absurd (reached-found (c .before .before .before .before .loop .inv)
 enum-known-record : tie.Need-enum-known-record Inv-loop μ-loop
 enum-known-record c = search needs
 
+-- where a record is known as one of the log
+abbrev read : tie.After-known-told Inv-loop μ-loop → tie.After-decode-at Inv-loop μ-loop
+read c = c .before .before .before
+
+place-of-requires : tie.Need-place-of-requires Inv-loop μ-loop
+place-of-requires c κs = let d = read c in reached-beside (d .before .before .loop .inv) (d .before .loop-test .taken) (d .decode-at .ensures) (c .before .«record» .given .1)
+
 note-requires : tie.Need-note-requires Inv-loop μ-loop
-note-requires c κs = reached-room (c .before .before .before .before .before .before .before .before .loop .inv) (c .before .before .before .before .before .before .before .loop-test .taken)
+note-requires c κs = let d = read (c .before .before .before .before) in reached-room (d .before .before .loop .inv) (d .before .loop-test .taken)
 
 add-i : tie.Need-add-i Inv-loop μ-loop
 add-i c = omega arith
@@ -38,7 +45,8 @@ loop-less : tie.Need-loop-less Inv-loop μ-loop
 loop-less c = omega arith
 
 loop-again : tie.Need-loop-again Inv-loop μ-loop
-loop-again c = reached-next (c .before .before .before .before .before .before .before .before .before .loop .inv) (c .before .before .before .before .before .before .before .before .loop-test .taken) (c .before .before .before .before .before .before .before .decode-at .ensures) (c .before .before .before .before .before .record .given .1) (c .note .ensures)
+loop-again c = let n = c .before in let p = n .before .before .before .before in let k = p .before in let d = read k in
+    reached-next (d .before .before .loop .inv) (d .before .loop-test .taken) (d .decode-at .ensures) (k .before .«record» .given .1) (p .place-of .ensures) (n .note .ensures)
 
 returns-2 : tie.Need-returns-2 Inv-loop μ-loop
 returns-2 c = reached-end (c .before .loop .inv) (c .loop-test .left)
@@ -54,6 +62,7 @@ fill-spec =
     enum-told
     returns
     enum-known-record
+    place-of-requires
     note-requires
     add-i
     loop-less

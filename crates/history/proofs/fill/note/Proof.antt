@@ -8,9 +8,6 @@ use mathlib.Core.Path.{refl}
 owner-of-requires : tie.Need-owner-of-requires
 owner-of-requires c κs = search needs
 
-cast-at : tie.Need-cast-at
-cast-at c = search needs
-
 enum-known-event : tie.Need-enum-known-event
 enum-known-event c = search needs
 
@@ -70,7 +67,6 @@ note-spec =
     tie.close
     (tie.spec
     owner-of-requires
-    cast-at
     enum-known-event
     cast-enter
     enter-requires

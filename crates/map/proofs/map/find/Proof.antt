@@ -9,7 +9,7 @@ use Rattle.map.proofs.map.find.Statement.{statement}
 use Rattle.map.proofs.map.find.Tie as tie
 
 abbrev Inv-loop : tie.InvT-loop
-Inv-loop keys chains count x next₀ next = Unmet keys count x next
+Inv-loop keys chains count x next₀ next = Unmet slotOf keys count x next
 
 abbrev μ-loop : tie.MeasureT-loop
 μ-loop keys chains count x next₀ next = next
@@ -23,8 +23,8 @@ small c = omega (arith, in-use c, c .before .before .before .before .pre .within
 
 link-below : (c : tie.In-loop Inv-loop μ-loop) →
     let a = c .before .before .before .before .args in let i = c .before .loop .next - 1 in
-    Top (a .keys .now) i (slotOf (getD (a .keys .now) i 0)) (getD (a .chains .now) (slotCount + i) 0)
-link-below c = c .before .before .before .before .pre .links _ (in-use c)
+    Top slotOf (a .keys .now) i (slotOf (getD (a .keys .now) i 0)) (getD (a .chains .now) (slotCount + i) 0)
+link-below c = c .before .before .before .before .pre .chained .links _ (in-use c)
 
 slot-of-requires : tie.Need-slot-of-requires Inv-loop μ-loop
 slot-of-requires c κs = search needs
@@ -36,7 +36,7 @@ element-copy-out-next : tie.Need-element-copy-out-next Inv-loop μ-loop
 element-copy-out-next c = search needs
 
 loop-holds : tie.Need-loop-holds Inv-loop μ-loop
-loop-holds c = rw (c .before .slot-of .ensures .0) (unmet-starts (c .before .before .pre .tops _ (omega (arith, c .before .slot-of .ensures .0, c .before .slot-of .ensures .1))))
+loop-holds c = rw (c .before .slot-of .ensures .0) (unmet-starts (c .before .before .pre .chained .heads _ (omega (arith, c .before .slot-of .ensures .0, c .before .slot-of .ensures .1))))
 
 cast-i : tie.Need-cast-i Inv-loop μ-loop
 cast-i c = search needs

@@ -1,44 +1,28 @@
 -- `admit` meets its contract: after a record of each kind the tables hold what they should (`Keeping.antt`).
-use Rattle.reader.proofs.Keeping.{keeps-add, keeps-remove, keeps-return}
-use Rattle.reader.proofs.Arms.{returned-asks}
+use native.Mathlib.Omega.{arith}
 use mathlib.Core.Path.{refl}
+use Rattle.reader.specs.Log.{operations}
+use Rattle.reader.proofs.Arms.{returns-nothing}
+use Rattle.reader.proofs.Keeping.{keeps-add, keeps-values}
 use borrow.Author.Needs.{needs}
 use Rattle.reader.proofs.scan.admit.Statement.{statement}
 use Rattle.reader.proofs.scan.admit.Tie as tie
 
--- where the event of a record that calls for an add is known, or for a remove, and where the function begins
-abbrev add-called : tie.After-struct-known → tie.After-event
-add-called c = c .before .before .before .before .before .before .before .before
+-- where the client has been noted, and where the function begins
+abbrev called-add : tie.After-struct-known → tie.After-event
+called-add c = c .before .before .before .before .before
 
-abbrev remove-called : tie.After-struct-known2 → tie.After-enum-told
-remove-called c = c .before .before .before .before
+abbrev start : tie.After-note-client → tie.Start
+start c = c .before .before .before .before .before
 
-abbrev start : tie.After-event → tie.Start
-start e = e .before .before
+note-client-requires : tie.Need-note-client-requires
+note-client-requires c κs = search needs
 
 enum-known-event : tie.Need-enum-known-event
 enum-known-event c = search needs
 
-begin-call-requires : tie.Need-begin-call-requires
-begin-call-requires c κs = search needs
-
 push-requires : tie.Need-push-requires
 push-requires c κs = search needs
-
-add-t20 : tie.Need-add-t20
-add-t20 c = search needs
-
-add-t21 : tie.Need-add-t21
-add-t21 c = search needs
-
-add-t22 : tie.Need-add-t22
-add-t22 c = search needs
-
-enum-told : tie.Need-enum-told
-enum-told c = search needs
-
-begin-call-requires-2 : tie.Need-begin-call-requires-2
-begin-call-requires-2 c κs = search needs
 
 add-t26 : tie.Need-add-t26
 add-t26 c = search needs
@@ -46,44 +30,48 @@ add-t26 c = search needs
 add-t27 : tie.Need-add-t27
 add-t27 c = search needs
 
-end-call-requires : tie.Need-end-call-requires
-end-call-requires c κs = search needs
+enum-told : tie.Need-enum-told
+enum-told c = search needs
+
+add-t28 : tie.Need-add-t28
+add-t28 c = search needs
 
 returns : tie.Need-returns
 returns c = record {
   at = refl;
-  kept = λ past k len ok. let e = add-called c in let pushed = c .before .push .ensures in
-      keeps-add (start e .args .r) k len ok _ (e .event .given .1) (c .before .before .before .before .begin-call .ensures) (start e .pre .1 .added) (pushed .0) (pushed .1);
+  kept = λ past k len ok. let e = called-add c in let n = e .before .before in let pushed = c .before .push .ensures in
+      keeps-add (start n .args .r) k len (start n .pre .0) (start n .pre .2) (n .note-client .ensures) ok _ (e .event .given .1) (start n .pre .1 .added) (pushed .0) (pushed .1);
 }
 
 returns-2 : tie.Need-returns-2
+unfolding operations
 returns-2 c = record {
   at = refl;
-  kept = λ past k len ok. let e = remove-called c in keeps-remove (e .before .before .args .r) k len ok _ (e .enum-told .given .1) (c .before .begin-call2 .ensures);
+  kept = λ past k len ok. let e = c .before in let n = e .before .before in
+      keeps-values (start n .args .r) k len (start n .pre .0) (start n .pre .2) (n .note-client .ensures) ok _
+      (rw (e .enum-told .given .1) (omega (arith, k .calls))) (rw (e .enum-told .given .1) refl) refl refl;
 }
 
 returns-3 : tie.Need-returns-3
+unfolding operations
 returns-3 c = record {
   at = refl;
-  kept = λ past k len ok. let r = c .before .before .before .before .args .r in
-      keeps-return r k len ok _ (returned-asks (r .event) (c .before .before .before .match .keys3)) (c .end-call .ensures);
+  kept = λ past k len ok. let n = c .before in
+      let nothing = returns-nothing (start n .args .r .event) (c .match .keys3) in
+      keeps-values (start n .args .r) k len (start n .pre .0) (start n .pre .2) (n .note-client .ensures) ok _ (omega (arith, k .calls, nothing .0)) (nothing .1) refl refl;
 }
 
 pub admit-spec : {M : Type 1} → statement M
 admit-spec =
     tie.close
     (tie.spec
+    note-client-requires
     enum-known-event
-    begin-call-requires
     push-requires
-    add-t20
-    add-t21
-    add-t22
-    enum-told
-    begin-call-requires-2
     add-t26
     add-t27
-    end-call-requires
+    enum-told
+    add-t28
     returns
     returns-2
     returns-3)

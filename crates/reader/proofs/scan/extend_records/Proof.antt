@@ -1,24 +1,23 @@
 -- `extend_records` meets its contract: the outcome of `read_all` says what the log is read as, and `fault_behind` what is wrong with the bytes.
-use mathlib.Core.Path.{refl, sym, ap}
+use mathlib.Core.Path.{sym, ap}
 use borrow.Author.Needs.{needs}
-use Rattle.map.proofs.Laws.{new-linked}
 use Rattle.reader.specs.Feed.{extended}
-use Rattle.reader.proofs.Scanning.{passed-all, passed-not, all-have-room, extends-full, extends-faulty, extends-fits}
+use Rattle.reader.proofs.Scanning.{all-new, passed-all, passed-not, all-have-room, extends-full, extends-faulty, extends-fits}
 use Rattle.reader.proofs.scan.extend_records.Statement.{statement}
 use Rattle.reader.proofs.scan.extend_records.Tie as tie
 
 -- where the tables are new, where all records have been read, and where there is room for one more
 abbrev start : tie.After-chains → tie.Start
-start c = c .before .before .before .before .before .before
+start c = c .before .before .before .before .before .before .before .before
 
 abbrev all-read : tie.Else1 → tie.After-p
 all-read c = c .before .before
 
 abbrev room : tie.After-fault-behind → tie.Else1
-room c = c .before .before .before .before .before
+room c = c .before .before .before .before .before .before .before
 
 read-all-requires : tie.Need-read-all-requires
-read-all-requires c κs = (start c .pre, refl, refl, new-linked)
+read-all-requires c κs = (start c .pre, all-new)
 
 enum-told : tie.Need-enum-told
 enum-told c = search needs
@@ -30,7 +29,7 @@ returns : tie.Need-returns
 returns c = extends-full (passed-all (c .before .before .before .before .read-all .ensures) (c .before .before .p .given .1)) _ (c .if1 .taken)
 
 fault-behind-requires : tie.Need-fault-behind-requires
-fault-behind-requires c κs = let b = c .before .before .before .before in
+fault-behind-requires c κs = let b = c .before .before .before .before .before .before in
     all-have-room (passed-all (all-read b .before .before .read-all .ensures) (all-read b .p .given .1)) (b .if1 .left)
 
 returns-2 : tie.Need-returns-2

@@ -30,6 +30,9 @@ enum-known-number c = search needs
 enum-known-record : tie.Need-enum-known-record
 enum-known-record c = search needs
 
+standing-of-requires : tie.Need-standing-of-requires
+standing-of-requires c κs = search needs
+
 fault-requires : tie.Need-fault-requires
 fault-requires c κs = search needs
 
@@ -37,7 +40,8 @@ returns-3 : tie.Need-returns-3
 returns-3 c = behind-malformed (omega (arith, c .before .before .before .before .if2 .left, c .before .before .before .before .before .before .if1 .left)) (sym (c .before .before .before .decode-at .ensures) ∙ c .before .number .given .1)
 
 returns-4 : tie.Need-returns-4
-returns-4 c = behind-fault (omega (arith, c .before .before .before .before .before .if2 .left, c .before .before .before .before .before .before .before .if1 .left)) (sym (c .before .before .before .before .decode-at .ensures) ∙ c .before .before .«record» .given .1) (c .fault .ensures)
+returns-4 c = let found = c .before .before .before in
+    behind-fault (omega (arith, found .before .before .before .if2 .left, found .before .before .before .before .before .if1 .left)) (sym (found .before .before .decode-at .ensures) ∙ found .«record» .given .1) (c .before .standing-of .ensures) (c .fault .ensures)
 
 pub fault-behind-spec : {M : Type 1} → statement M
 fault-behind-spec =
@@ -51,6 +55,7 @@ fault-behind-spec =
     decode-at-requires
     enum-known-number
     enum-known-record
+    standing-of-requires
     fault-requires
     returns-3
     returns-4)

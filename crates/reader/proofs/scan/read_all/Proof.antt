@@ -3,26 +3,26 @@
 use Prim.Native.Nat.{_<_, _-_}
 use native.Mathlib.Omega.{arith}
 use borrow.Author.Needs.{needs}
-use Rattle.reader.specs.Tables.{through, stopped}
+use Rattle.reader.specs.Tables.{tables, through, stopped}
 use Rattle.reader.proofs.Scanning.{Scanned, loop-starts, loop-has-room, loop-stops, loop-goes, loop-leaves-bytes, loop-ends}
 use Rattle.reader.proofs.scan.read_all.Statement.{statement}
 use Rattle.reader.proofs.scan.read_all.Tie as tie
 
 abbrev Inv-loop : tie.InvT-loop
-Inv-loop log count clients₀ codes₀ values₀ chains₀ p₀ i₀ clients codes values chains p i = Scanned log count clients codes values chains p i
+Inv-loop log count clients₀ heads₀ links₀ codes₀ values₀ chains₀ p₀ i₀ clients heads links codes values chains p i = Scanned log count (tables clients heads links codes values chains) p i
 
 abbrev μ-loop : tie.MeasureT-loop
-μ-loop log count clients₀ codes₀ values₀ chains₀ p₀ i₀ clients codes values chains p i = count - i
+μ-loop log count clients₀ heads₀ links₀ codes₀ values₀ chains₀ p₀ i₀ clients heads links codes values chains p i = count - i
 
 -- the turn of the loop in which a record is to be read, and in which it has been read
-abbrev reading : tie.After-read-record-arg4 Inv-loop μ-loop → tie.In-loop Inv-loop μ-loop
-reading c = c .before .before .before .before
+abbrev reading : tie.After-read-record-arg6 Inv-loop μ-loop → tie.In-loop Inv-loop μ-loop
+reading c = c .before .before .before .before .before .before
 
 abbrev turn : tie.After-read-record Inv-loop μ-loop → tie.In-loop Inv-loop μ-loop
 turn c = reading (c .before)
 
 loop-holds : tie.Need-loop-holds Inv-loop μ-loop
-loop-holds c = loop-starts _ _ _ _ _ _ (c .before .pre .1) (c .before .pre .2) (c .before .pre .3)
+loop-holds c = loop-starts _ _ (c .before .pre .1)
 
 read-record-requires : tie.Need-read-record-requires Inv-loop μ-loop
 read-record-requires c κs = let loop = reading c .before .loop in let below : loop .i < 1024 = omega arith in (below, loop-has-room (loop .inv) below)

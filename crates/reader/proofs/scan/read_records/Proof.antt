@@ -1,21 +1,20 @@
 -- `read_records` meets its contract: the outcome of `read_all` says what the log is read as.
-use mathlib.Core.Path.{refl, sym, ap}
+use mathlib.Core.Path.{sym, ap}
 use borrow.Author.Needs.{needs}
-use Rattle.map.proofs.Laws.{new-linked}
 use Rattle.reader.specs.Tables.{surveyed}
-use Rattle.reader.proofs.Scanning.{passed-all, passed-not, all-fit, all-surveyed}
+use Rattle.reader.proofs.Scanning.{all-new, passed-all, passed-not, all-fit, all-surveyed}
 use Rattle.reader.proofs.scan.read_records.Statement.{statement}
 use Rattle.reader.proofs.scan.read_records.Tie as tie
 
 -- where the tables are new, and where all records have been read
 abbrev start : tie.After-chains → tie.Start
-start c = c .before .before .before .before .before
+start c = c .before .before .before .before .before .before .before
 
 abbrev all-read : tie.After-codes2 → tie.After-p
 all-read c = c .before .before
 
 read-all-requires : tie.Need-read-all-requires
-read-all-requires c κs = (start c .pre, refl, refl, new-linked)
+read-all-requires c κs = (start c .pre, all-new)
 
 enum-known-number : tie.Need-enum-known-number
 enum-known-number c = search needs
