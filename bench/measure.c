@@ -124,6 +124,7 @@ static const struct sample samples[] = {
     {"values-reversed", 512, 0, 512, log_values_reversed},
     {"pending-pairs", 682, 0, 682, log_pending_pairs},
     {"shared-slot", 512, 0, 512, log_values_of_slot},
+    {"reader-shared-slot", 512, 0, 512, log_clients_of_slot},
     {"pending-adds", 1024, 0, 0, pending_adds},
     {"pending-adds-listed", 1024, 0, 0, pending_adds_listed},
     {"pending-shared-slot", 1024, 0, 0, pending_shared_slot},

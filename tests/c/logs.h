@@ -248,6 +248,22 @@ static inline void log_values_of_slot(struct log *log, struct sheet *order)
     sheet_call_order(order, 512);
 }
 
+/* 512 adds, one after the other: one by each of the 64 clients that share a slot of the reader's map
+   of clients (crates/map/src/narrow.rt), then all others by the first of them, which that map finds
+   last. */
+static inline void log_clients_of_slot(struct log *log, struct sheet *order)
+{
+    enum { SLOTS = 1024, SHARE = 64 };
+    log_begin(log);
+    for (unsigned i = 0; i < 512; i++) {
+        unsigned high = i < SHARE ? i : 0;
+        unsigned client = high * SLOTS + (SLOTS - high) % SLOTS;
+        log_record(log, CALL_ADD, client, i);
+        log_record(log, RETURN_ADD, client, 0);
+    }
+    sheet_call_order(order, 512);
+}
+
 /* Who makes the calls of a simulated run: clients numbered from 0, the same 1,024 apart, or one for
    each operation. */
 enum clients { CLIENTS_REUSED, CLIENTS_APART, CLIENT_PER_OPERATION };

@@ -45,6 +45,15 @@ unfoldable pub reading : {A : Type 0} → Row A → Reading
 unfolding recordsFrom encode encodeAll bytesOf bigEndian lengthOf eventOf frameAt decodeAt pendingKind returnedAt pendingRemove addedValues isIn eventFault fault scan readPartial
 reading row = readLog (encodeLog (recordsOf (row .run)))
 
+-- the same of records as they are given
+unfoldable pub historyTold : List Record → History
+unfolding operations callIndex firstOf tally positionOf
+historyTold records = historyOf records
+
+unfoldable pub readingTold : List Record → Reading
+unfolding encode encodeAll bytesOf bigEndian lengthOf eventOf frameAt decodeAt pendingKind returnedAt pendingRemove addedValues isIn eventFault fault scan readPartial
+readingTold records = readLog (encodeLog records)
+
 -- a table is correct if what its rows say is decided to be right
 pub rows-correct : {A : Type 0} {Right : History → A → Type 0} (right? : (h : History) (says : A) → Dec (Right h says)) (rows : List (Row A))
     → decide (each? (λ row. right? (history row) (row .says)) rows) ≡ true → Each (Correct Right) rows
@@ -100,3 +109,8 @@ ticks-right? row =
 pub tick-rows-right : Each TicksRight tickRows
 unfolding decide each? ticks-right?
 tick-rows-right = decide-iff (each? ticks-right? tickRows) .0 refl
+
+-- their logs are read as their records
+pub tick-rows-read : map (λ row. readLog (encodeLog (row .records))) tickRows ≡ map (λ row. readable (row .records)) tickRows
+unfolding readingTold
+tick-rows-read = refl

@@ -79,11 +79,15 @@ pub(crate) fn place_of(
     requires { ⌜ Beside (now log) r next index end count before ⌝ }
     ensures { λ p. ⌜ PlaceFound (now (log .entry)) index p ⌝ }
 {
-    if before.stop <= index && index + 1 < end && be32(log, next + TICK) != r.tick {
-        return Place {
-            position: index as u32,
-            batch: before,
-        };
+    if before.stop <= index {
+        if index + 1 < end {
+            if be32(log, next + TICK) != r.tick {
+                return Place {
+                    position: index as u32,
+                    batch: before,
+                };
+            }
+        }
     }
     let batch = batch_of(log, r, next, index, end, count, before);
     let event = r.event;

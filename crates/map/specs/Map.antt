@@ -39,9 +39,9 @@ pub record Linked (keys chains : List ℕ) (count : ℕ) : Type 0 where
   pub chains-sized : length chains ≡ slotCount + mapSize
   pub chained : Chained slotOf slotCount keys count (λ slot. getD chains slot 0) (λ i. getD chains (slotCount + i) 0)
 
--- the slot of a narrow key, one of 16 bits: its ten low bits
+-- the slot of a narrow key, one of 16 bits: the ten low bits of the sum of the key and its six high bits
 abbrev pub narrowSlotOf : ℕ → ℕ
-narrowSlotOf x = x % mapSize
+narrowSlotOf x = (x + x / mapSize) % mapSize
 
 -- A map of narrow keys, with its heads and its links in tables of their own: there are as many slots as entries.
 pub record NarrowLinked (keys heads links : List ℕ) (count : ℕ) : Type 0 where

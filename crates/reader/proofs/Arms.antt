@@ -7,15 +7,15 @@ use types.Run.{OneOf, miss}
 use Rattle.record.proofs.record.Event.{the-type}
 use Rattle.record.specs.declared.record.Event.{Event}
 use Rattle.record.specs.declared.record.Event.the-variants.{CallAdd, CallRemove, ReturnAdd, ReturnRemove}
-use Rattle.reader.specs.Log.{isCall, valueOf}
+use Rattle.reader.specs.Log.{isCall, leaves, valueOf}
 use Rattle.reader.specs.Readable.{asks}
 
--- the arm of the returns, which call nothing and add no value
-pub returns-nothing : (e : Event) → OneOf (2 ∷ 3 ∷ []) (tagOf the-type e) → (isCall e ≡ 0) × (valueOf e ≡ [])
+-- the arm of the returns, which call nothing, leave nothing pending and add no value
+pub returns-nothing : (e : Event) → OneOf (2 ∷ 3 ∷ []) (tagOf the-type e) → (isCall e ≡ 0) × (leaves e ≡ 0) × (valueOf e ≡ [])
 returns-nothing (CallAdd v) tag = absurd (miss (2 ∷ 3 ∷ []) 0 tt tag)
 returns-nothing CallRemove tag = absurd (miss (2 ∷ 3 ∷ []) 1 tt tag)
-returns-nothing ReturnAdd tag = (refl, refl)
-returns-nothing (ReturnRemove x) tag = (refl, refl)
+returns-nothing ReturnAdd tag = (refl, refl, refl)
+returns-nothing (ReturnRemove x) tag = (refl, refl, refl)
 
 -- the arm of all but a call of add, where the event is a call
 pub remove-called : (e : Event) → OneOf (1 ∷ 2 ∷ 3 ∷ []) (tagOf the-type e) → asks e ≡ 0 → e ≡ CallRemove

@@ -137,8 +137,8 @@ keeps-none at new = record {
 }
 
 -- the latest record of a client is noted at the client's entry
-module _ {past : List Record} (r : Record) {index entry count met : ℕ} (t t' : Tables) (k : ClientsKept past count t) (len : length past ≡ index) (room : index < maxRecords)
-    (found : Latest (t .clients) count (r .client) entry) (noted : Noted r index entry count (t .clients) (t .codes) met (t' .clients) (t' .heads) (t' .links) (t' .codes)) where
+module _ {past : List Record} (r : Record) {index entry count met code : ℕ} (t t' : Tables) (k : ClientsKept past count t) (len : length past ≡ index) (room : index < maxRecords)
+    (found : Latest (t .clients) count (r .client) entry) (noted : Noted (r .client) code entry count (t .clients) (t .codes) met (t' .clients) (t' .heads) (t' .links) (t' .codes)) (is : code ≡ (index + 1) * 4 + leaves (r .event)) where
   -- what stays and what is new, be the client an old one or not
   record Entry : Type 0 where
     below : entry < met
@@ -176,10 +176,10 @@ module _ {past : List Record} (r : Record) {index entry count met : ℕ} (t t' :
   small = omega (arith, found .within, k .few, k .codes-sized)
 
   code-new : getD (t' .codes) entry 0 ≡ (index + 1) * 4 + leaves (r .event)
-  code-new = rw (noted .codes-are) (getD-set-same (t .codes) entry _ 0 small)
+  code-new = rw (noted .codes-are) (getD-set-same (t .codes) entry code 0 small) ∙ is
 
   code-old : (p : ℕ) → (p ≡ entry → ⊥) → getD (t' .codes) p 0 ≡ getD (t .codes) p 0
-  code-old p n = rw (noted .codes-are) (getD-set-other (t .codes) entry p _ 0 n)
+  code-old p n = rw (noted .codes-are) (getD-set-other (t .codes) entry p code 0 n)
 
   -- no other entry has this client
   alone : (p : ℕ) → p < count → getD (t .clients) p 0 ≡ r .client → p ≡ entry
@@ -198,7 +198,7 @@ module _ {past : List Record} (r : Record) {index entry count met : ℕ} (t t' :
     linked = noted .linked;
     few = omega (arith, k .few, entered .more-by-one);
     apart = λ p q h l e. apart p q h l e (ℕ-discrete p entry) (ℕ-discrete q entry);
-    codes-sized = rw (noted .codes-are) (length-set (t .codes) entry _ ∙ k .codes-sized);
+    codes-sized = rw (noted .codes-are) (length-set (t .codes) entry code ∙ k .codes-sized);
     coded = λ p h. coded p h (ℕ-discrete p entry);
     held = λ p h. held p h (ℕ-discrete p entry);
     unused = λ p h. code-old p (λ e. omega (arith, entered .below)) ∙ k .unused p (unused p h (decLt p count));
@@ -256,8 +256,8 @@ module _ {past : List Record} (r : Record) where
   }
 
   -- all that is kept, after a record that leaves these values
-  module _ {p : Progress} {index met : ℕ} {s : Standing} {t t' : Tables} (k : Kept past p t) (len : length past ≡ index) (room : index < maxRecords) (stands : Stands r index p (t .clients) (t .codes) s)
-      (noted : Noted r index (s .entry) (p .clients) (t .clients) (t .codes) met (t' .clients) (t' .heads) (t' .links) (t' .codes)) (ok : fault past r ≡ 0) (next : ℕ) where
+  module _ {p : Progress} {index met code : ℕ} {s : Standing} {t t' : Tables} (k : Kept past p t) (len : length past ≡ index) (room : index < maxRecords) (stands : Stands r index p (t .clients) (t .codes) s)
+      (noted : Noted (r .client) code (s .entry) (p .clients) (t .clients) (t .codes) met (t' .clients) (t' .heads) (t' .links) (t' .codes)) (is : code ≡ (index + 1) * 4 + leaves (r .event)) (ok : fault past r ≡ 0) (next : ℕ) where
     keeps : {added operations' : ℕ} → operations' ≡ operations (r ∷ past) → AddedKept (r ∷ past) added (t' .values) (t' .chains)
         → Kept (r ∷ past) (record { at = next; tick = r .tick; start = s .start; clients = met; added = added; operations = operations' }) t'
     unfolding startOf
@@ -266,7 +266,7 @@ module _ {past : List Record} (r : Record) where
       start = rw (eq-eqb (r .tick) (r .tick) refl) (start-is k len stands);
       rising = more (no-fault past r ok .tick) (k .rising);
       calls = calls;
-      clients = clients-more r t t' (k .clients) len room (stands .entry) noted;
+      clients = clients-more r t t' (k .clients) len room (stands .entry) noted is;
       added = added;
     }
 

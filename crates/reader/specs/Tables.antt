@@ -108,13 +108,12 @@ faultIn r p s values =
     if ltb (r .tick) (p .tick) then tickFell else
     eventFault (r .event) (s .code % 4) (ltb (s .start) (s .code / 4)) (take (p .added) values)
 
--- The record r, which has this index, is noted as the latest one of its client at an entry, which is in use or the first that is not. So many clients
--- are then met.
-pub record Noted (r : Record) (index entry count : ℕ) (clients codes : List ℕ) (met : ℕ) (clients' heads' links' codes' : List ℕ) : Type 0 where
+-- The code of a client is noted at an entry, which is in use or the first that is not. So many clients are then met.
+pub record Noted (client code entry count : ℕ) (clients codes : List ℕ) (met : ℕ) (clients' heads' links' codes' : List ℕ) : Type 0 where
   pub linked : NarrowLinked clients' heads' links' met
-  pub codes-are : codes' ≡ set codes entry ((index + 1) * 4 + leaves (r .event))
+  pub codes-are : codes' ≡ set codes entry code
   pub old : entry < count → (met ≡ count) × (clients' ≡ clients)
-  pub new : count ≤ entry → (met ≡ count + 1) × (clients' ≡ set clients count (r .client))
+  pub new : count ≤ entry → (met ≡ count + 1) × (clients' ≡ set clients count client)
 
 -- r is the lowest index of a pending remove that the first `count` codes have, or `none` if they have none below it.
 pub record LeastRemove (codes : List ℕ) (count none r : ℕ) : Type 0 where

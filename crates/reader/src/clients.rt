@@ -4,16 +4,17 @@ ghost use mathlib.Core.Path.{_≡_};
 ghost use Prim.Native.Nat.{_+_, _-_, _*_, _/_, _≤_, _<_};
 ghost use Rattle.map.specs.Map.{NarrowLinked};
 ghost use Rattle.table.specs.Table.{Fits};
-ghost use Rattle.reader.specs.Log.{maxRecords, leaves};
+ghost use Rattle.reader.specs.Log.{maxRecords};
 ghost use Rattle.reader.specs.Tables.{Stands, Noted, Coded, LeastRemove};
 use crate::scan::Progress;
 use map::narrow::find_narrow;
 use map::narrow::push_narrow;
-use record::record::Event;
 use record::record::Record;
 use table::table::Table;
 
-// The kinds of a call.
+// The kinds of a call, and that of none.
+pub const NO_CALL: u16 = 0;
+
 pub const ADD_CALL: u16 = 1;
 
 pub const REMOVE_CALL: u16 = 2;
@@ -24,18 +25,6 @@ pub struct Standing {
     pub entry: usize,
     pub code: u16,
     pub start: usize,
-}
-
-// The kind of the call that is pending after an event, 0 for none.
-fn leaves(event: Event) -> u16
-    ensures { λ kind. ⌜ (kind ≡ leaves event) × (kind < 4) ⌝ }
-{
-    match event {
-        Event::CallAdd(_) => ADD_CALL,
-        Event::CallRemove => REMOVE_CALL,
-        Event::ReturnAdd => 0,
-        Event::ReturnRemove(_) => 0,
-    }
 }
 
 // Finds the client of the record with an index.
@@ -69,12 +58,12 @@ pub(crate) fn standing_of(
     }
 }
 
-// The code of a client whose latest record has this index.
-fn code_of(index: usize, event: Event) -> u16
-    requires { ⌜ index < maxRecords ⌝ }
-    ensures { λ r. ⌜ r ≡ (index + 1) * 4 + leaves event ⌝ }
+// The code of a client whose latest record has this index, and leaves a call of this kind pending.
+pub(crate) fn code_of(index: usize, kind: u16) -> u16
+    requires { ⌜ (index < maxRecords) × (kind < 4) ⌝ }
+    ensures { λ r. ⌜ r ≡ (index + 1) * 4 + kind ⌝ }
 {
-    (index as u16 + 1) * 4 + leaves(event)
+    (index as u16 + 1) * 4 + kind
 }
 
 // The index that a code holds.
@@ -85,10 +74,10 @@ fn index_of(code: u16) -> usize
     code as usize / 4 - 1
 }
 
-// Notes the record with an index as the latest one of its client, whose entry is known, and answers how many clients have been met.
+// Notes the code of a client, whose entry is known, and answers how many clients have been met.
 pub(crate) fn note_client(
-    r: Record,
-    index: usize,
+    client: u16,
+    code: u16,
     entry: usize,
     count: usize,
     clients: &mut Table,
@@ -96,12 +85,10 @@ pub(crate) fn note_client(
     links: &mut Table,
     codes: &mut Table,
 ) -> usize
-    requires { ⌜ (index < maxRecords) × (entry < maxRecords) × (count < maxRecords) × NarrowLinked (now clients) (now heads) (now links) count ⌝ }
-    ensures { λ met. ⌜ Noted r index entry count (now (clients .entry)) (now (codes .entry)) met (now (clients .exit)) (now (heads .exit)) (now (links .exit)) (now (codes .exit)) ⌝ }
+    requires { ⌜ (entry < maxRecords) × (count < maxRecords) × NarrowLinked (now clients) (now heads) (now links) count ⌝ }
+    ensures { λ met. ⌜ Noted client code entry count (now (clients .entry)) (now (codes .entry)) met (now (clients .exit)) (now (heads .exit)) (now (links .exit)) (now (codes .exit)) ⌝ }
 {
-    let client = r.client;
-    let event = r.event;
-    codes[entry] = code_of(index, event);
+    codes[entry] = code;
     if entry < count {
         return count;
     }

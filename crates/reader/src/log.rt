@@ -1,4 +1,4 @@
-// A whole log: readable, or refused under a number of document 01. What is right is said in specs/Log.antt.
+// A whole log: readable, or refused under a number. What is right is said in specs/Log.antt.
 ghost use mathlib.Core.Path.{_≡_};
 ghost use Rattle.reader.specs.Log.{readPartial, readLog, checked};
 ghost use Rattle.reader.specs.Tables.{surveyed};

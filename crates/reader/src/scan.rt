@@ -9,8 +9,10 @@ ghost use Rattle.reader.specs.Readable.{asks};
 ghost use Rattle.reader.specs.Feed.{extended};
 ghost use Rattle.reader.specs.Tables.{tables, New, Room, Stands, Admitted, Stepped, Passed, FaultBehind, faultIn, surveyed};
 use crate::clients::ADD_CALL;
+use crate::clients::NO_CALL;
 use crate::clients::REMOVE_CALL;
 use crate::clients::Standing;
+use crate::clients::code_of;
 use crate::clients::earliest_remove;
 use crate::clients::note_client;
 use crate::clients::standing_of;
@@ -76,8 +78,8 @@ fn asks(event: Event) -> u16
     ensures { λ kind. ⌜ kind ≡ asks event ⌝ }
 {
     match event {
-        Event::CallAdd(_) => 0,
-        Event::CallRemove => 0,
+        Event::CallAdd(_) => NO_CALL,
+        Event::CallRemove => NO_CALL,
         Event::ReturnAdd => ADD_CALL,
         Event::ReturnRemove(_) => REMOVE_CALL,
     }
@@ -136,11 +138,11 @@ fn admit(
     requires { ⌜ (index < maxRecords) × Room p (tables (now clients) (now heads) (now links) (now codes) (now values) (now chains)) × Stands r index p (now clients) (now codes) s ⌝ }
     ensures { λ q. ⌜ Admitted r next index p (tables (now (clients .entry)) (now (heads .entry)) (now (links .entry)) (now (codes .entry)) (now (values .entry)) (now (chains .entry))) q (tables (now (clients .exit)) (now (heads .exit)) (now (links .exit)) (now (codes .exit)) (now (values .exit)) (now (chains .exit))) ⌝ }
 {
+    let client = r.client;
     let entry = s.entry;
     let count = p.clients;
     let added = p.added;
     let event = r.event;
-    let met = note_client(r, index, entry, count, clients, heads, links, codes);
     match event {
         Event::CallAdd(value) => {
             push(values, chains, added, value);
@@ -148,7 +150,16 @@ fn admit(
                 at: next,
                 tick: r.tick,
                 start: s.start,
-                clients: met,
+                clients: note_client(
+                    client,
+                    code_of(index, ADD_CALL),
+                    entry,
+                    count,
+                    clients,
+                    heads,
+                    links,
+                    codes,
+                ),
                 added: added + 1,
                 operations: p.operations + 1,
             }
@@ -157,7 +168,16 @@ fn admit(
             at: next,
             tick: r.tick,
             start: s.start,
-            clients: met,
+            clients: note_client(
+                client,
+                code_of(index, REMOVE_CALL),
+                entry,
+                count,
+                clients,
+                heads,
+                links,
+                codes,
+            ),
             added,
             operations: p.operations + 1,
         },
@@ -165,7 +185,16 @@ fn admit(
             at: next,
             tick: r.tick,
             start: s.start,
-            clients: met,
+            clients: note_client(
+                client,
+                code_of(index, NO_CALL),
+                entry,
+                count,
+                clients,
+                heads,
+                links,
+                codes,
+            ),
             added,
             operations: p.operations,
         },

@@ -1,19 +1,22 @@
 -- The runs of the tables have the verdicts that are given for them.
 use Prim.Native.Nat.{ℕ, _≤_, _<_}
 use native.Mathlib.Decide.{decLt, decLe, ℕ-discrete}
-use mathlib.Core.Path.{refl}
-use mathlib.Core.Bool.{decide}
+use mathlib.Core.Path.{_≡_, refl}
+use mathlib.Core.Bool.{decide, decide-iff}
 use mathlib.Core.Logic.{Dec·and, Dec·not}
+use mathlib.Core.List.{map}
+use Rattle.reader.specs.Log.{readable, readLog, encodeLog}
 use Rattle.history.specs.Each.{Each}
 use Rattle.history.specs.Object.{Object, Queue, Cell}
 use Rattle.history.specs.History.{History, noKind, Returned, Lawful, Lone}
 use Rattle.history.specs.Runs.{Holds, Correct}
+use Rattle.history.specs.Operations.{historyOf}
 use Rattle.history.proofs.Deciding.{all-below?, implies?, equivalent?, some?}
-use Rattle.history.proofs.Rows.{each?, history, reading, rows-hold, rows-correct}
+use Rattle.history.proofs.Rows.{each?, history, reading, historyTold, readingTold, rows-hold, rows-correct}
 use Rattle.violations.specs.Violations.{Is}
 use Rattle.violations.specs.Verdict.{FirstViolation, SomeViolation, JudgedLinearization}
 use Rattle.violations.specs.Fates.{taking, Free}
-use Rattle.violations.specs.Runs.{Expected, linearization, violation, Judged, runs, picks, cellRuns, Settling, leaves-out, lets-take, Settles, openRuns}
+use Rattle.violations.specs.Runs.{Expected, linearization, violation, Judged, runs, picks, tickedRuns, cellRuns, Settling, leaves-out, lets-take, Settles, openRuns}
 use Rattle.violations.proofs.Lists.{each-map}
 use Rattle.violations.proofs.Operations.{is?}
 use Rattle.violations.proofs.FirstViolations.{violated?, first-violation?, judged-linearization?}
@@ -35,6 +38,15 @@ runs-hold = rows-hold (judged? Queue) runs refl refl
 pub picks-hold : Each (Holds (Judged Queue)) picks
 unfolding decide each? judged? history reading
 picks-hold = rows-hold (judged? Queue) picks refl refl
+
+-- the runs with equal ticks, and that their logs are read as their records
+pub ticked-runs-judged : Each (λ row. Judged Queue (historyOf (row .records)) (row .says)) tickedRuns
+unfolding decide each? judged? historyTold
+ticked-runs-judged = decide-iff (each? (λ row. judged? Queue (historyTold (row .records)) (row .says)) tickedRuns) .0 refl
+
+pub ticked-runs-read : map (λ row. readLog (encodeLog (row .records))) tickedRuns ≡ map (λ row. readable (row .records)) tickedRuns
+unfolding readingTold
+ticked-runs-read = refl
 
 pub cell-runs-correct : Each (Correct (Judged Cell)) cellRuns
 unfolding decide each? judged? history

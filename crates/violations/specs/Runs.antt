@@ -1,15 +1,16 @@
 -- Document 01, "Runs". The table `runs` has the runs marked *, in the document's order, with the verdict that it gives for each.
 -- The table `picks` shows what is reported where they leave it open: its first three rows are the document's other runs with
 -- a verdict; the next have several occurrences, ties or open adds; in the last three a pattern that is read too widely would be
--- reported in place of the right one. `cellRuns` and `openRuns` are for cells and open removes, of document 02. What a run and a
--- row are is said in the crate history.
+-- reported in place of the right one. `tickedRuns` has runs with equal ticks, and `cellRuns` and `openRuns` are for cells and
+-- open removes, of document 02. What a run and a row are is said in the crate history.
 use Prim.Native.Nat.{ℕ}
 use mathlib.Core.List.{List, [], _∷_}
 use Rattle.record.specs.declared.record.Removed.the-variants.{Value, Empty}
 use Rattle.record.specs.declared.record.Event.the-variants.{CallAdd, CallRemove, ReturnAdd, ReturnRemove}
+use Rattle.record.specs.declared.record.Record.{Record}
 use Rattle.history.specs.Object.{Object, Queue}
 use Rattle.history.specs.History.{History}
-use Rattle.history.specs.Runs.{Row}
+use Rattle.history.specs.Runs.{Row, at}
 use Rattle.violations.specs.Verdict.{FirstViolation, JudgedLinearization, Verdict}
 use Rattle.violations.specs.Fates.{taking, Settled}
 
@@ -109,6 +110,22 @@ picks =
           (5, CallAdd 3) ∷ (5, ReturnAdd) ∷ (6, CallRemove) ∷ (6, ReturnRemove Empty) ∷ [];
       says = violation 6 (6 ∷ 5 ∷ []);
     } ∷
+    []
+
+-- A run whose ticks are given: its records, and the verdict. Document 02, change 3: "Gaps follow: records are taken by tick, within a tick the calls
+-- before the returns, else as they stand".
+pub record TickedRun : Type 0 where
+  pub records : List Record
+  pub says : Expected
+
+abbrev pub tickedRuns : List TickedRun
+tickedRuns =
+    -- A7( A7) R( R-), the return of the add and the call of the remove in one tick: order 1 0
+    record { records = at 1 0 (CallAdd 7) ∷ at 2 0 ReturnAdd ∷ at 2 1 CallRemove ∷ at 3 1 (ReturnRemove Empty) ∷ []; says = linearization (1 ∷ 0 ∷ []) } ∷
+    -- A7( A7) in one tick, R( R-) in the next: the remove has a gap, which is covered, pattern 6, 1 0
+    record { records = at 1 0 (CallAdd 7) ∷ at 1 0 ReturnAdd ∷ at 2 1 CallRemove ∷ at 2 1 (ReturnRemove Empty) ∷ []; says = violation 6 (1 ∷ 0 ∷ []) } ∷
+    -- A1( A2( A1) A2) in one tick, Re( Re-) in the next, Ra( Rb( Ra1) Rb2) in the last: 2 reaches further than 1, pattern 6, 2 1
+    record { records = at 1 0 (CallAdd 1) ∷ at 1 1 (CallAdd 2) ∷ at 1 0 ReturnAdd ∷ at 1 1 ReturnAdd ∷ at 2 2 CallRemove ∷ at 2 2 (ReturnRemove Empty) ∷ at 3 3 CallRemove ∷ at 3 4 CallRemove ∷ at 3 3 (ReturnRemove (Value 1)) ∷ at 3 4 (ReturnRemove (Value 2)) ∷ []; says = violation 6 (2 ∷ 1 ∷ []) } ∷
     []
 
 -- Runs of a cell: W7( and W7) call and return a write, R( and R7) or R-) a read.

@@ -1,5 +1,6 @@
-//! Values and clients that share slots of the library's map. It hashes a key to one of 512 slots
-//! (`crates/map/src/map.rt`), and searches the keys of a slot one after the other. One that takes a
+//! Values and clients that share slots of the library's maps. One hashes a key to one of 512 slots
+//! (`crates/map/src/map.rt`), the other, in which the reader keeps clients, to one of 1,024
+//! (`crates/map/src/narrow.rt`). Both search the keys of a slot one after the other. One that takes a
 //! key for another of its slot, or leaves some of them out, answers wrongly on these logs.
 
 use std::collections::HashMap;
@@ -12,6 +13,11 @@ fn slot_of(key: u32) -> u64 {
     u64::from(key) * 2_654_435_761 / 8_388_608 % 512
 }
 
+/// The slot of a client in the reader's map, by that map's formula.
+fn narrow_slot_of(client: u16) -> u16 {
+    (client / 1024 + client % 1024) % 1024
+}
+
 /// Values and clients in the order in which logs are given them.
 pub struct Slots {
     /// More values than a log can have, all of one slot: alternately values that agree in their high
@@ -22,6 +28,7 @@ pub struct Slots {
 }
 
 impl Default for Slots {
+    /// The clients share slots of the map that values share slots of.
     fn default() -> Slots {
         let is_of_slot_0 = |value: &u32| slot_of(*value) == 0;
         let high_alike = (0..).filter(is_of_slot_0);
@@ -39,6 +46,15 @@ impl Default for Slots {
 }
 
 impl Slots {
+    /// The same, but the clients share slots of the reader's map: 64 each.
+    pub fn of_the_reader() -> Slots {
+        let mut slots = Slots::default();
+        slots
+            .clients
+            .sort_by_key(|&client| (narrow_slot_of(client), client));
+        slots
+    }
+
     /// The records with other values and clients, which are equal exactly where they were equal. The
     /// values all share one slot, in the order in which they appear, and so do those for clients 0 to
     /// 125.
@@ -62,7 +78,7 @@ impl Slots {
 mod tests {
     use std::collections::HashSet;
 
-    use super::{slot_of, Slots};
+    use super::{narrow_slot_of, slot_of, Slots};
     use crate::logs::notation::run;
     use crate::model::record::{call_add, call_remove, return_value};
 
@@ -77,6 +93,18 @@ mod tests {
         assert!(slots.clients[..=125].iter().all(|c| of_client(c) == 0));
         assert!(slots.clients.is_sorted_by_key(of_client));
         assert_eq!(slots.clients.len(), 65_536);
+    }
+
+    #[test]
+    fn clients_share_slots_of_the_reader() {
+        let clients = Slots::of_the_reader().clients;
+        assert_eq!(clients.len(), 65_536);
+        let slots: Vec<&[u16]> = clients
+            .chunk_by(|&one, &next| narrow_slot_of(one) == narrow_slot_of(next))
+            .collect();
+        assert_eq!(slots.len(), 1024);
+        assert!(slots.iter().all(|slot| slot.len() == 64));
+        assert_eq!(slots[0][..3], [0, 2047, 3070]);
     }
 
     #[test]

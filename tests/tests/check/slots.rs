@@ -1,4 +1,4 @@
-//! Values and clients that share slots of the library's map: each of them is told from the others,
+//! Values and clients that share slots of the library's maps: each of them is told from the others,
 //! wherever it stands among them. The logs are handed to all other entries as well.
 
 use yauponroof_tests::compare::reading::Tally;
@@ -77,11 +77,19 @@ fn a_value_added_again_when_it_was_removed() {
     }
 }
 
-/// Clients of one slot call an add each. What a client may do then depends on that client alone.
 #[test]
 fn clients_of_one_slot_are_told_apart() {
+    tell_apart(&Slots::default());
+}
+
+#[test]
+fn clients_of_one_slot_of_the_reader_are_told_apart() {
+    tell_apart(&Slots::of_the_reader());
+}
+
+/// Clients of one slot call an add each. What a client may do then depends on that client alone.
+fn tell_apart(slots: &Slots) {
     const N: u32 = 125;
-    let slots = Slots::default();
     let (callers, others) = slots.clients.split_at(N as usize);
     let stranger = others[0];
     let adds = callers.iter().zip(1000..);

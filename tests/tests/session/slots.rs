@@ -1,4 +1,4 @@
-//! Sessions that are fed values and clients that share slots of the library's map: a feed is refused
+//! Sessions that are fed values and clients that share slots of the library's maps: a feed is refused
 //! exactly if the log held has that very value, or that very client is at work.
 
 use yauponroof_tests::compare::whole_session::{compare_closing, compare_whole, fed, fed_seen};
@@ -30,7 +30,9 @@ fn runs_of_a_queue() {
 #[test]
 fn the_most_records() {
     let run = simulate(64, Clients::Reused, MAX_RECORDS, 216);
-    assert_eq!(verdict(&Slots::default().shared(&run)), ORDER);
+    for slots in [Slots::default(), Slots::of_the_reader()] {
+        assert_eq!(verdict(&slots.shared(&run)), ORDER);
+    }
 }
 
 #[test]
@@ -68,7 +70,11 @@ fn each_value_is_fed_again_after_each_record() {
 
 #[test]
 fn a_client_at_work_calls_again_and_one_that_is_not_returns() {
-    let slots = Slots::default();
+    refuse_what_does_not_fit(&Slots::default());
+    refuse_what_does_not_fit(&Slots::of_the_reader());
+}
+
+fn refuse_what_does_not_fit(slots: &Slots) {
     let (callers, strangers) = slots.clients[..125].split_at(60);
     let adds = pending_adds(callers, &slots.values);
     let mut session = fed(&adds);

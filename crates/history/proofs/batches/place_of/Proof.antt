@@ -1,7 +1,6 @@
 -- `place_of` meets its contract: the record is alone in its tick, or the formulas of its batch say where it stands (`Placing.antt`).
 use native.Mathlib.Omega.{arith}
 use mathlib.Core.Path.{sym, _∙_}
-use borrow.Author.Tests.{ltb-true, eqb-false, not-true}
 use Rattle.reader.proofs.Events.{isCall-small}
 use Rattle.history.proofs.Placing.{placing-called, placing-few, placing-fits, placed-alone, placed-call, placed-return}
 use borrow.Author.Needs.{needs}
@@ -19,16 +18,16 @@ add-if2 : tie.Need-add-if2
 add-if2 c = search needs
 
 add-be32 : tie.Need-add-be32
-add-be32 c = omega (arith, placing-fits (start c .pre) (c .before .if1 .taken) (ltb-true _ _ (c .if2 .taken)))
+add-be32 c = omega (arith, placing-fits (start c .pre) (c .before .if1 .taken) (c .if2 .taken))
 
 be32-requires : tie.Need-be32-requires
-be32-requires c κs = omega (arith, placing-fits (start c .pre) (c .before .if1 .taken) (ltb-true _ _ (c .if2 .taken)))
+be32-requires c κs = omega (arith, placing-fits (start c .pre) (c .before .if1 .taken) (c .if2 .taken))
 
 cast-t16 : tie.Need-cast-t16
 cast-t16 c = omega (arith, placing-called (start (c .before .before .before) .pre))
 
 returns : tie.Need-returns
-returns c = let t = c .before .before .before in placed-alone (start t .pre) (t .before .if1 .taken) (ltb-true _ _ (t .if2 .taken)) (c .before .before .be32 .ensures) (eqb-false _ _ (not-true _ (c .if3 .taken)))
+returns c = let t = c .before .before .before in placed-alone (start t .pre) (t .before .if1 .taken) (t .if2 .taken) (c .before .before .be32 .ensures) (c .if3 .taken)
 
 batch-of-requires : tie.Need-batch-of-requires
 batch-of-requires c κs = search needs
@@ -36,14 +35,14 @@ batch-of-requires c κs = search needs
 is-call-requires : tie.Need-is-call-requires
 is-call-requires c κs = search needs
 
-sub-t19 : tie.Need-sub-t19
-sub-t19 c = omega (arith, placing-called (begun (c .before .before) .pre))
+sub-t18 : tie.Need-sub-t18
+sub-t18 c = omega (arith, placing-called (begun (c .before .before) .pre))
 
-add-t20 : tie.Need-add-t20
-add-t20 c = let b = c .before .before .before in omega (arith, placing-called (begun b .pre), placing-few (begun b .pre) (b .batch-of .ensures))
+add-t19 : tie.Need-add-t19
+add-t19 c = let b = c .before .before .before in omega (arith, placing-called (begun b .pre), placing-few (begun b .pre) (b .batch-of .ensures))
 
-cast-t21 : tie.Need-cast-t21
-cast-t21 c = let b = c .before .before .before in omega (arith, placing-called (begun b .pre), placing-few (begun b .pre) (b .batch-of .ensures))
+cast-t20 : tie.Need-cast-t20
+cast-t20 c = let b = c .before .before .before in omega (arith, placing-called (begun b .pre), placing-few (begun b .pre) (b .batch-of .ensures))
 
 returns-2 : tie.Need-returns-2
 returns-2 c = let b = c .before .before .before in placed-return (begun b .pre) (b .batch-of .ensures) (sym (c .before .before .is-call .ensures) ∙ c .before .if4 .taken)
@@ -51,8 +50,8 @@ returns-2 c = let b = c .before .before .before in placed-return (begun b .pre) 
 add-t17 : tie.Need-add-t17
 add-t17 c = let b = c .before .before .before in omega (arith, placing-called (begun b .pre), placing-few (begun b .pre) (b .batch-of .ensures))
 
-cast-t22 : tie.Need-cast-t22
-cast-t22 c = let b = c .before .before .before in omega (arith, placing-called (begun b .pre), placing-few (begun b .pre) (b .batch-of .ensures))
+cast-t21 : tie.Need-cast-t21
+cast-t21 c = let b = c .before .before .before in omega (arith, placing-called (begun b .pre), placing-few (begun b .pre) (b .batch-of .ensures))
 
 returns-3 : tie.Need-returns-3
 returns-3 c = let b = c .before .before .before in placed-call (begun b .pre) (b .batch-of .ensures) (omega (arith, c .before .before .is-call .ensures, c .before .if4 .left, isCall-small (begun b .args .r .event)))
@@ -68,10 +67,10 @@ place-of-spec =
     returns
     batch-of-requires
     is-call-requires
-    sub-t19
-    add-t20
-    cast-t21
+    sub-t18
+    add-t19
+    cast-t20
     returns-2
     add-t17
-    cast-t22
+    cast-t21
     returns-3)

@@ -15,16 +15,19 @@ abbrev μ-loop : tie.MeasureT-loop
 μ-loop keys heads links count x next₀ next = next
 
 -- in a turn of the loop the entry below `next` is in use, and its link leads to the one before it in its slot
-in-use : (c : tie.In-loop Inv-loop μ-loop) → c .before .loop .next - 1 < c .before .before .before .args .count
+in-use : (c : tie.In-loop Inv-loop μ-loop) → c .before .loop .next - 1 < c .before .before .before .before .args .count
 in-use c = omega (arith, c .before .loop .inv .within, c .loop-test .taken)
 
 small : (c : tie.In-loop Inv-loop μ-loop) → c .before .loop .next - 1 < mapSize
-small c = omega (arith, in-use c, c .before .before .before .pre .within)
+small c = omega (arith, in-use c, c .before .before .before .before .pre .within)
 
 link-below : (c : tie.In-loop Inv-loop μ-loop) →
-    let a = c .before .before .before .args in let i = c .before .loop .next - 1 in
+    let a = c .before .before .before .before .args in let i = c .before .loop .next - 1 in
     Top narrowSlotOf (a .keys .now) i (narrowSlotOf (getD (a .keys .now) i 0)) (getD (a .links .now) i 0)
-link-below c = c .before .before .before .pre .chained .links _ (in-use c)
+link-below c = c .before .before .before .before .pre .chained .links _ (in-use c)
+
+narrow-slot-of-requires : tie.Need-narrow-slot-of-requires Inv-loop μ-loop
+narrow-slot-of-requires c κs = search needs
 
 mul-next : tie.Need-mul-next Inv-loop μ-loop
 mul-next c = search needs
@@ -33,7 +36,7 @@ element-copy-out-next : tie.Need-element-copy-out-next Inv-loop μ-loop
 element-copy-out-next c = search needs
 
 loop-holds : tie.Need-loop-holds Inv-loop μ-loop
-loop-holds c = unmet-starts (c .before .pre .chained .heads _ (omega arith))
+loop-holds c = rw (c .before .narrow-slot-of .ensures .0) (unmet-starts (c .before .before .pre .chained .heads _ (omega (arith, c .before .narrow-slot-of .ensures .0, c .before .narrow-slot-of .ensures .1))))
 
 cast-i : tie.Need-cast-i Inv-loop μ-loop
 cast-i c = search needs
@@ -71,6 +74,7 @@ find-narrow-spec =
     (tie.spec
     Inv-loop
     μ-loop
+    narrow-slot-of-requires
     mul-next
     element-copy-out-next
     loop-holds

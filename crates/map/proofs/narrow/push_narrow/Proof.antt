@@ -5,6 +5,9 @@ use Rattle.map.proofs.Chains.{narrow-more}
 use Rattle.map.proofs.narrow.push_narrow.Statement.{statement}
 use Rattle.map.proofs.narrow.push_narrow.Tie as tie
 
+narrow-slot-of-requires : tie.Need-narrow-slot-of-requires
+narrow-slot-of-requires c κs = search needs
+
 mul-links : tie.Need-mul-links
 mul-links c = search needs
 
@@ -36,12 +39,13 @@ element-write-keys : tie.Need-element-write-keys
 element-write-keys c = search needs
 
 returns : tie.Need-returns
-returns c = (refl, narrow-more (c .before .args .x) (c .before .pre .1) (c .before .pre .0))
+returns c = let start = c .before .before in (refl, rw (c .before .narrow-slot-of .ensures .0) (narrow-more (start .args .x) (start .pre .1) (start .pre .0)))
 
 pub push-narrow-spec : {M : Type 1} → statement M
 push-narrow-spec =
     tie.close
     (tie.spec
+    narrow-slot-of-requires
     mul-links
     element-copy-out-links
     mul-links-2

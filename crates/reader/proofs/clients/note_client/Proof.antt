@@ -5,9 +5,6 @@ use borrow.Author.Needs.{needs}
 use Rattle.reader.proofs.clients.note_client.Statement.{statement}
 use Rattle.reader.proofs.clients.note_client.Tie as tie
 
-code-of-requires : tie.Need-code-of-requires
-code-of-requires c κs = search needs
-
 mul-codes : tie.Need-mul-codes
 mul-codes c = search needs
 
@@ -15,8 +12,7 @@ element-write-codes : tie.Need-element-write-codes
 element-write-codes c = search needs
 
 returns : tie.Need-returns
-returns c = let start = c .before .before in
-    record { linked = start .pre .3; codes-are = rw (c .before .code-of .ensures) refl; old = λ l. (refl, refl); new = λ n. absurd (omega (arith, c .if1 .taken)) }
+returns c = record { linked = c .before .pre .2; codes-are = refl; old = λ l. (refl, refl); new = λ n. absurd (omega (arith, c .if1 .taken)) }
 
 push-narrow-requires : tie.Need-push-narrow-requires
 push-narrow-requires c κs = search needs
@@ -26,16 +22,9 @@ add-result c = search needs
 
 returns-2 : tie.Need-returns-2
 returns-2 c = let else = c .before .before .before .before in
-    record { linked = c .push-narrow .ensures .1; codes-are = rw (else .before .code-of .ensures) refl; old = λ l. absurd (omega (arith, else .if1 .left)); new = λ n. (refl, c .push-narrow .ensures .0) }
+    record { linked = c .push-narrow .ensures .1; codes-are = refl; old = λ l. absurd (omega (arith, else .if1 .left)); new = λ n. (refl, c .push-narrow .ensures .0) }
 
 pub note-client-spec : {M : Type 1} → statement M
 note-client-spec =
     tie.close
-    (tie.spec
-    code-of-requires
-    mul-codes
-    element-write-codes
-    returns
-    push-narrow-requires
-    add-result
-    returns-2)
+    (tie.spec mul-codes element-write-codes returns push-narrow-requires add-result returns-2)
