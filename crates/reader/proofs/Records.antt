@@ -132,17 +132,17 @@ returned-absent [] client tick absent = refl
 returned-absent (r ∷ past) client tick absent = returned-other r past client tick (absent-last r past absent) ∙ returned-absent past client tick (absent-earlier r past absent)
 
 -- The latest record of a client, as its code has it.
-pub record Coded (past : List Record) (client : ℕ) : Type 0 where
+pub record LatestRecord (past : List Record) (client : ℕ) : Type 0 where
   pub at : ℕ
   pub below : at < length past
   pub own : nth past at .client ≡ client
   pub last : Last (reverse past) at
   pub code : codeOf past client ≡ (at + 1) * 4 + leaves (nth past at .event)
 
-pub code-record : (past : List Record) (client : ℕ) → (codeOf past client ≡ 0 → ⊥) → Coded past client
+pub code-record : (past : List Record) (client : ℕ) → (codeOf past client ≡ 0 → ⊥) → LatestRecord past client
 code-record past client some = go (highest (λ k. nth past k .client ≡ client) (λ k. decEq (nth past k .client) client) (length past))
   where
-    go : Highest (λ k. nth past k .client ≡ client) (length past) ⊎ None (λ k. nth past k .client ≡ client) (length past) → Coded past client
+    go : Highest (λ k. nth past k .client ≡ client) (length past) ⊎ None (λ k. nth past k .client ≡ client) (length past) → LatestRecord past client
     go (inl s) =
         let last : Last (reverse past) (s .at) = λ k a b q. s .none-higher k a (omega (arith, length-reverse past)) (q ∙ s .holds) in
         record { at = s .at; below = s .below; own = s .holds; last = last; code = rw (s .holds) at (code-latest past (s .at) (s .below) last) }
