@@ -39,8 +39,8 @@
  * Ticks alone say what came first. An operation precedes another exactly if the tick of its return
  * is lower than the tick of the other's call; two operations overlap if neither precedes the other.
  * An add without return precedes nothing. Within one tick the order of the records of different
- * clients is chance and tells nothing about time; those of one client stand in their order. If all ticks of a log are different, the order of its records is the
- * order of the events.
+ * clients is chance and tells nothing about time; those of one client stand in their order. If all
+ * ticks of a log are different, the order of its records is the order of the events.
  *
  * Ticks may stay equal from one record to the next and may not fall (6). A client's call needs a
  * higher tick than that client's last return (31). An operation may begin and end within one tick.

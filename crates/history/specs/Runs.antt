@@ -1,7 +1,7 @@
 -- Document 01, "Runs": "A7( calls add of 7, A7) returns it; R( calls remove, R7) and R-) return it. Ticks rise by one; each
 -- operation has a client of its own." What a table of runs is, and tables of lists that are legal orders of a run and of lists that
--- are not: of a queue, of a queue with a remove that does not return, of a cell, and of a queue with ticks that do not rise. The runs that the document marks * are a table
--- of the crate violations, which knows the patterns.
+-- are not: of a queue, of a queue with a remove that does not return, of a cell, and of a queue with equal ticks. The runs that the
+-- document marks * are a table of the crate violations, which knows the patterns.
 use Prim.Native.Nat.{ℕ, suc, _+_}
 use mathlib.Core.Path.{_≡_}
 use mathlib.Core.List.{List, [], _∷_}
