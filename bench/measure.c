@@ -108,6 +108,26 @@ static void late_6(struct log *log, struct sheet *order)
     log_late_pattern(log, order, 6);
 }
 
+static void late_4_open(struct log *log, struct sheet *order)
+{
+    log_late_pattern_open(log, order, 4, OPEN_BEFORE);
+}
+
+static void late_6_open(struct log *log, struct sheet *order)
+{
+    log_late_pattern_open(log, order, 6, OPEN_AFTER);
+}
+
+static void long_chain_open(struct log *log, struct sheet *order)
+{
+    log_relay_open(log, order, 170, 170, LAST_TRUE);
+}
+
+static void long_chain_false_open(struct log *log, struct sheet *order)
+{
+    log_relay_open(log, order, 170, 170, LAST_FALSE);
+}
+
 static void empty(struct log *log, struct sheet *order)
 {
     log_begin(log);
@@ -138,6 +158,10 @@ static const struct sample samples[] = {
     {"late-4", 512, 4, 3, late_4},
     {"late-5", 512, 5, 4, late_5},
     {"late-6", 512, 6, 2, late_6},
+    {"late-4-open", 512, 0, 512, late_4_open},
+    {"late-6-open", 512, 6, 2, late_6_open},
+    {"long-chain-open", 510, 0, 510, long_chain_open},
+    {"long-chain-false-open", 510, 6, 171, long_chain_false_open},
     {"63-records", 32, 0, 31, log_simulate_page},
     {"empty", 0, 0, 0, empty},
 };

@@ -1,5 +1,5 @@
 /*
- * yauponroof.h - a judge for logs of queue operations, version 0.7.0
+ * yauponroof.h - a judge for logs of queue operations, version 0.8.0
  *
  * A log tells the calls and the returns of operations on one queue, made by any number of clients.
  * yr_check says whether the log is readable and how many operations it has, or which record is at
@@ -31,16 +31,17 @@
  *
  * Every client number, tick and value that fits its field is allowed. Value 0 is a value and does
  * not mean "empty". Records are counted from 0. Each call record begins an operation, and operations
- * are numbered from 0 in the order of their call records, whatever their ticks. An add may lack its
- * return; a remove may not.
+ * are numbered from 0 in the order of their call records, whatever their ticks. Any number of adds
+ * may lack their return, and one remove may. An operation without return is called open. A second
+ * open remove is refused (10).
  *
  * Ticks
  * -----
  * Ticks alone say what came first. An operation precedes another exactly if the tick of its return
  * is lower than the tick of the other's call; two operations overlap if neither precedes the other.
- * An add without return precedes nothing. Within one tick the order of the records of different
- * clients is chance and tells nothing about time; those of one client stand in their order. If all
- * ticks of a log are different, the order of its records is the order of the events.
+ * An open operation precedes nothing. Within one tick the order of the records of different clients
+ * is chance and tells nothing about time; those of one client stand in their order. If all ticks of
+ * a log are different, the order of its records is the order of the events.
  *
  * Ticks may stay equal from one record to the next and may not fall (6). A client's call needs a
  * higher tick than that client's last return (31). An operation may begin and end within one tick.
@@ -68,17 +69,42 @@
  * ------------
  * An order is legal for a log if
  *
- * - it lists every operation that has returned exactly once, each add that has not returned at most
- *   once, and no other number;
+ * - it lists every operation that has returned exactly once, each open add at most once, the open
+ *   remove, if there is one, at most once, and no other number;
  * - no operation comes before one that precedes it (see "Ticks");
  * - done in that order on a queue that is empty at the start, each add puts its value at the back,
- *   each remove that returned a value takes that value from the front, and each remove that
- *   returned empty meets an empty queue.
+ *   each remove that returned a value takes that value from the front, each remove that returned
+ *   empty meets an empty queue, and the open remove takes the front value if there is one and
+ *   otherwise changes nothing.
+ *
+ * The open remove
+ * ---------------
+ * A rig may kill one consumer in a run. The log then has the call of its remove and no return, and
+ * does not tell whether this remove took a value. So both are tried. The judge first leaves it out.
+ * If there is no legal order then, it tries it as the remove of each value that was added and that
+ * no remove returned, lowest add first, and lists the first order that it finds. If none of them
+ * gives an order, it reports the pattern that is found with the remove left out.
+ *
+ * - A sheet with an order lists the open remove only if no legal order leaves it out. Where it
+ *   stands it takes the front value, and every legal order has it take this value.
+ * - If the sheet leaves it out, it does not tell whether the remove took a value. It may have taken
+ *   one of those that no remove returned.
+ * - A pattern never lists it. No order exists, whatever the remove did, but the pattern may list
+ *   the add of a value that the remove took.
+ * - A log with an open remove has no excerpt (32), so all that is made for keeping is the sheet.
+ *   Keep the log as well.
+ * - yr_narrow drops the open remove, so a narrowed log may have a pattern where the log has an
+ *   order.
+ *
+ * Up to version 0.7.0 every log with an open remove was refused with 10.
  *
  * The patterns
  * ------------
- * A readable log has a legal order exactly if none of these occurs. "Precedes" goes by ticks, as
- * above.
+ * A readable log without an open remove has a legal order exactly if none of these occurs. With an
+ * open remove it has one exactly if none occurs with the remove left out, or none would occur if the
+ * remove had returned, after the last record, one of the values that were added and that no remove
+ * returned. The open remove itself is in no pattern: "a remove", and "was removed", below mean
+ * removes that have returned. "Precedes" goes by ticks, as above.
  *
  *     1  unknown      a remove returned a value that no add of the log names, returned or not;
  *                     lists the remove
@@ -96,11 +122,11 @@
  * as they stand in the log. A gap lies between two neighbours in this sequence. The gaps of a remove
  * run from its call to its return; there is at least one, even if both have the same tick. A value
  * covers the gaps from the return of its add to the call of its remove, or to the end if it was
- * never removed; the value of an add without return covers none. The chain begins with the value
- * that reaches furthest of those that cover the first gap, and goes on in the same way at the first
- * gap beyond it, until all gaps of the remove are covered. The later the call of its remove stands
- * in the sequence, the further a value reaches. A value that was never removed reaches furthest, and
- * among several of these the lowest add is taken.
+ * never removed; the value of an open add covers none. The chain begins with the value that reaches
+ * furthest of those that cover the first gap, and goes on in the same way at the first gap beyond
+ * it, until all gaps of the remove are covered. The later the call of its remove stands in the
+ * sequence, the further a value reaches. A value that was never removed reaches furthest, and among
+ * several of these the lowest add is taken.
  *
  * The lowest number that occurs is reported. If it occurs more than once, the lowest list is
  * reported, compared left to right.
@@ -118,7 +144,8 @@
  *     1 to 4    the number of the operation, right-aligned
  *     5         a space
  *     6 to 16   left-aligned: A for an add or R for a remove, and the value in decimal without
- *               leading zeros; or E alone for a remove that returned empty
+ *               leading zeros; or E alone for a remove that returned empty; or R alone for the
+ *               open remove
  *     17        a space
  *     18 to 80  one character for each record, in the order of the log: # from the call of the
  *               operation to its return, both included, or to the last record if it has not
@@ -169,9 +196,9 @@
 extern "C" {
 #endif
 
-#define YR_VERSION "0.7.0"
+#define YR_VERSION "0.8.0"
 #define YR_VERSION_MAJOR 0
-#define YR_VERSION_MINOR 7
+#define YR_VERSION_MINOR 8
 #define YR_VERSION_PATCH 0
 
 /* The most records that a log may have. */
@@ -188,8 +215,8 @@ extern "C" {
 
 /*
  * The most bytes of a sheet that is written here: 4, and 2 for each of 682 operations. A legal order
- * is longer only if it lists adds without return whose values were never removed; yr_replay takes
- * that as well.
+ * is longer only if it lists open adds whose values were never removed, or the open remove;
+ * yr_replay takes that as well.
  */
 #define YR_SHEET_MAX 1368
 
@@ -226,19 +253,19 @@ typedef struct yr_session {
 } yr_session;
 
 /*
- * All refusals. Those from 1 to 11, and 30 and 31, concern what was handed in, those from 20 to 25
+ * All refusals. Those from 1 to 11, and 30 to 32, concern what was handed in, those from 20 to 25
  * how things stand. A refused call writes to no buffer, and leaves the session as it was.
  *
  *     yr_check                1 to 10, 31
  *     yr_replay               1 to 11, 31
  *     yr_judge, yr_narrow     1 to 10, 24, 31
- *     yr_excerpt              1 to 10, 23, 24, 31
+ *     yr_excerpt              1 to 10, 23, 24, 31, 32
  *     yr_page                 1 to 10, 24, 30, 31
  *     yr_begin                24
  *     yr_feed                 1, 4 to 9, 20, 21, 24, 25, 31
  *     yr_close                10, 20, 24, 25
  *     yr_sheet                22, 24, 25
- *     yr_session_excerpt      22 to 25
+ *     yr_session_excerpt      22 to 25, 32
  */
 enum yr_refusal {
     YR_REFUSAL_BYTES = 1,            /* fewer than 3 bytes; the bytes end before or inside a record;
@@ -252,7 +279,8 @@ enum yr_refusal {
     YR_REFUSAL_CALL = 7,             /* a call by a client with an open call */
     YR_REFUSAL_RETURN = 8,           /* a return with no open call of that client and that operation */
     YR_REFUSAL_VALUE = 9,            /* a value called to be added a second time */
-    YR_REFUSAL_PENDING_REMOVE = 10,  /* a remove without return (index of the earliest such call) */
+    YR_REFUSAL_PENDING_REMOVE = 10,  /* a second remove without return (index of its call, also if
+                                        there are more than two) */
     YR_REFUSAL_SHEET = 11,           /* a sheet for replay that has under 4 bytes, a version other
                                         than 1, a verdict other than 0, or a length other than
                                         4 + 2k */
@@ -266,7 +294,8 @@ enum yr_refusal {
                                         the bytes are no readable log (of an open session: readable
                                         but for 10) */
     YR_REFUSAL_PAGE = 30,            /* the page of a log of more than YR_PAGE_RECORDS records */
-    YR_REFUSAL_TICK_REPEATED = 31    /* a call whose tick equals that of its client's last return */
+    YR_REFUSAL_TICK_REPEATED = 31,   /* a call whose tick equals that of its client's last return */
+    YR_REFUSAL_UNRETURNED = 32       /* the excerpt of a log with a remove that has not returned */
 };
 
 /*
@@ -294,7 +323,7 @@ enum yr_refusal {
  *     9   a call of add, and an earlier record calls to add the same value (index i)
  *     then:
  *     1   bytes are left behind the last record (index n)
- *     10  a remove has no return (index of the earliest call of such a remove)
+ *     10  two removes or more have no return (index of the second call of such a remove)
  *
  * Nothing is written. Less than 16 KiB of stack is used (15.8 KB measured).
  */
@@ -320,9 +349,10 @@ yr_answer yr_check(const uint8_t *log, size_t log_len);
  *     11           the length of the sheet is not 4 + 2k (index 0)
  *
  * Nothing is refused for what the sheet lists. An operation listed twice, one left out that has
- * returned, or a number that the log lacks gives no. An add without return may be listed once or
- * left out, also if its value was never removed; if a remove returned its value, no order without
- * it is legal.
+ * returned, or a number that the log lacks gives no. An open add may be listed once or left out,
+ * also if its value was never removed; if a remove returned its value, no order without it is legal.
+ * The open remove may be listed once or left out. Where it stands it takes the front value, which no
+ * remove after it can take; where the queue is empty it changes nothing.
  *
  * Nothing is written. Less than 64 KiB of stack is used (44.8 KB measured).
  */
@@ -340,10 +370,11 @@ yr_answer yr_replay(const uint8_t *log, size_t log_len, const uint8_t *sheet, si
  *       one of the refusals below.
  *
  * If some order is legal for the log, the verdict is 0 and the sheet lists a legal order, to which
- * yr_replay says yes. It has every operation that returned, and an add without return exactly if its
- * value was removed. Where several such orders are legal, it is always the same one for one log; a
- * later version may list another. Otherwise the verdict is the number of the pattern that is told, 1
- * to 6, and the sheet lists its operations.
+ * yr_replay says yes. It has every operation that returned, an open add exactly if a remove returned
+ * its value, and the open remove exactly if no legal order leaves it out (see "The open remove").
+ * Where several such orders are legal, it is always the same one for one log; a later version may
+ * list another. Otherwise the verdict is the number of the pattern that is told, 1 to 6, and the
+ * sheet lists its operations.
  *
  * The first test that fails decides, in this order:
  *
@@ -353,7 +384,7 @@ yr_answer yr_replay(const uint8_t *log, size_t log_len, const uint8_t *sheet, si
  *
  * An accepted call writes the first 4 + 2k bytes of the sheet and leaves those behind them as they
  * were; a refused one leaves all as they were. The log is never written to. Less than 64 KiB of
- * stack is used (47.3 KB measured).
+ * stack is used (52.1 KB measured).
  */
 yr_answer yr_judge(const uint8_t *log, size_t log_len, uint8_t *sheet, size_t sheet_len);
 
@@ -361,7 +392,8 @@ yr_answer yr_judge(const uint8_t *log, size_t log_len, uint8_t *sheet, size_t sh
  * Makes the excerpt of a log that has a pattern: the log of all records of all operations on the
  * values of the operations that the pattern lists and, with pattern 6, of the remove that it lists.
  * No other remove that returned empty is kept. The records stand in their order, with clients, ticks
- * and values as they were. An excerpt is a readable log, and its verdict has the same number.
+ * and values as they were. An excerpt is a readable log, and its verdict has the same number. A log
+ * with an open remove has no excerpt.
  *
  * In:   log      the log_len bytes of the log; never NULL, not even if log_len is 0
  *       log_len  any length; above YR_LOG_MAX no log is readable
@@ -375,21 +407,24 @@ yr_answer yr_judge(const uint8_t *log, size_t log_len, uint8_t *sheet, size_t sh
  *
  *     1 to 10, 31  the log is not readable: the refusal and the index that yr_check gives, whatever
  *                  out_len is
+ *     32           a remove of the log has not returned, whatever the verdict and out_len are
+ *                  (index 0)
  *     23           the verdict on the log is an order, whatever out_len is (index 0)
  *     24           out_len is below the length of the excerpt (index 0)
  *
  * An accepted call writes the bytes of the excerpt and leaves those behind them as they were; a
  * refused one leaves all as they were. The log is never written to. Less than 64 KiB of stack is
- * used (52.6 KB measured).
+ * used (53.1 KB measured).
  */
 yr_answer yr_excerpt(const uint8_t *log, size_t log_len, uint8_t *out, size_t out_len);
 
 /*
  * Narrows a log to a list of values: writes the log of all records of operations on these values
  * and of no others. An add is on the value that it names, returned or not, and a remove on the value
- * that it returned; a remove that returned empty is on none and is never kept. The records stand in
- * their order, with clients, ticks and values as they were, so that what is written is a readable
- * log.
+ * that it returned; a remove that returned empty, or has not returned, is on none and is never kept.
+ * The records stand in their order, with clients, ticks and values as they were, so that what is
+ * written is a readable log. Every remove in it has returned. If the log has an open remove, what is
+ * written may have a pattern although the log has an order.
  *
  * In:   log      the log_len bytes of the log; never NULL, not even if log_len is 0
  *       log_len  any length; above YR_LOG_MAX no log is readable
@@ -509,13 +544,13 @@ yr_answer yr_feed(yr_session *s, uint8_t *buf, size_t len, const uint8_t *record
  *
  *     25  the session does not fit its buffer (index 0)
  *     20  the session is closed (index 0)
- *     10  a remove has no return (index of the earliest call of such a remove)
+ *     10  two removes or more have no return (index of the second call of such a remove)
  *     24  sheet_len is below 4 + 2k (index 0)
  *
  * An accepted call sets the stage to YR_CLOSED and leaves the used bytes as they were; it writes the
  * first 4 + 2k bytes of the sheet and leaves those behind them as they were. A refused one leaves
  * the session and the sheet as they were, so that an open session stays open. The session's buffer
- * is never written to. Less than 64 KiB of stack is used (47.4 KB measured).
+ * is never written to. Less than 64 KiB of stack is used (52.2 KB measured).
  */
 yr_answer yr_close(yr_session *s, const uint8_t *buf, size_t len, uint8_t *sheet,
                    size_t sheet_len);
@@ -541,13 +576,13 @@ yr_answer yr_close(yr_session *s, const uint8_t *buf, size_t len, uint8_t *sheet
  *
  * An accepted call writes the first 4 + 2k bytes of the sheet and leaves those behind them as they
  * were; a refused one leaves all as they were. The session and its buffer are never written to. Less
- * than 64 KiB of stack is used (47.4 KB measured).
+ * than 64 KiB of stack is used (52.2 KB measured).
  */
 yr_answer yr_sheet(const yr_session *s, const uint8_t *buf, size_t len, uint8_t *sheet,
                    size_t sheet_len);
 
 /*
- * Makes the excerpt of the log of a closed session, if that has a pattern.
+ * Makes the excerpt of the log of a closed session, if that has a pattern and no open remove.
  *
  * In:   s        the session; never NULL
  *       buf      its buffer, len bytes, as the call before left them; never NULL, not even if len is
@@ -563,12 +598,13 @@ yr_answer yr_sheet(const yr_session *s, const uint8_t *buf, size_t len, uint8_t 
  *
  *     25  the session does not fit its buffer (index 0)
  *     22  the session is open (index 0)
+ *     32  a remove of the log has not returned, whatever the verdict and out_len are (index 0)
  *     23  the verdict on the log is an order, whatever out_len is (index 0)
  *     24  out_len is below the length of the excerpt (index 0)
  *
  * An accepted call writes the bytes of the excerpt and leaves those behind them as they were; a
  * refused one leaves all as they were. The session and its buffer are never written to. Less than
- * 64 KiB of stack is used (52.7 KB measured).
+ * 64 KiB of stack is used (53.2 KB measured).
  */
 yr_answer yr_session_excerpt(const yr_session *s, const uint8_t *buf, size_t len, uint8_t *out,
                              size_t out_len);

@@ -21,10 +21,11 @@
  * What the buffer holds
  * ---------------------
  * The first yr_recorder_length bytes of the buffer are at any time the log of all records taken so
- * far, with their number in bytes 1 and 2. It can be judged or written away after each record; while
- * a remove is open, it is refused (10). The bytes behind the log are as they were, and no byte
- * outside the buffer is read or written. The recorder keeps the pointer to the buffer: the buffer has
- * to stay where it is, and the log in it as it is, as long as records are appended.
+ * far, with their number in bytes 1 and 2. It can be judged or written away after each record. While
+ * one remove is open, it is judged as a log whose consumer was killed, see below; while more than one
+ * is, it is refused (10). The bytes behind the log are as they were, and no byte outside the buffer is
+ * read or written. The recorder keeps the pointer to the buffer: the buffer has to stay where it is,
+ * and the log in it as it is, as long as records are appended.
  *
  * What can go wrong
  * -----------------
@@ -36,7 +37,7 @@
  * yr_judge and all others that take a log, and yr_feed for each record. They refuse a log in which a
  * tick is below the one before it (6), a client calls while its last call is open (7), calls with the
  * tick of its last return (31) or returns what it has not called (8), a value is added a second time
- * (9), or a remove has not returned (10).
+ * (9), or a second remove has not returned (10).
  *
  * Or the verdict is on another history than the one that ran:
  *
@@ -50,6 +51,28 @@
  *   correct queue may be given pattern 4 or 6. Without both, the faults of a value are missed. So
  *   record every operation, starting from an empty queue, and do not begin one whose call was not
  *   taken.
+ *
+ * A consumer that was killed
+ * --------------------------
+ * One remove of a log may be left open: its call is appended and no return, and nothing more of its
+ * client. So a rig may kill one consumer in a run, before its remove begins, within it, or after it
+ * has ended and before its return is recorded. Nothing has to be called for it. The call still has to
+ * be recorded before the remove begins: a remove that took a value and has no record is a fault of the
+ * log, as above. The room for the return stays set aside.
+ *
+ * Nobody knows then whether the remove took a value. A legal order may leave it out or list it once;
+ * where it stands it takes the front value if there is one, and otherwise changes nothing. It precedes
+ * no operation. The judge first tries it left out, then as the remove of each value that was added and
+ * that no other remove returned, lowest add first, and lists the first order that it finds. So a
+ * correct queue has an order. If there is none, the sheet has the pattern that is found with the
+ * remove left out. yr_excerpt refuses such a log (32), and yr_page shows the remove as R without a
+ * value.
+ *
+ * A second remove without return is refused (10), with the index of its call; if there are more, it is
+ * still that of the second. Any number of adds may be open.
+ *
+ * An open remove can explain one value that is missing, also if the queue has lost it. So it can hide
+ * a fault, and where a return is known it should be recorded.
  *
  * Ticks
  * -----

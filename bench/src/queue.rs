@@ -8,6 +8,8 @@ use yauponroof_tests::model::record::Removed;
 pub struct Queue {
     added: Vec<u32>,
     removed: usize,
+    /// Of each pending remove that was run, whether it took a value.
+    took: Vec<bool>,
     /// At index i the hash of the first i values that were added.
     hashes: Vec<u64>,
     /// At index i the factor to the power of i.
@@ -32,6 +34,7 @@ impl Queue {
         Queue {
             added: Vec::with_capacity(most_added),
             removed: 0,
+            took: Vec::new(),
             hashes: vec![0],
             powers: powers.take(most_added + 1).collect(),
         }
@@ -64,6 +67,12 @@ impl Queue {
                 is_front
             }
             Action::Remove(Removed::Empty) => self.contents().is_empty(),
+            Action::PendingRemove => {
+                let takes = !self.contents().is_empty();
+                self.removed += usize::from(takes);
+                self.took.push(takes);
+                true
+            }
         }
     }
 
@@ -76,6 +85,10 @@ impl Queue {
             }
             Action::Remove(Removed::Value(_)) => self.removed -= 1,
             Action::Remove(Removed::Empty) => {}
+            Action::PendingRemove => {
+                let took = self.took.pop().expect("a pending remove was run");
+                self.removed -= usize::from(took);
+            }
         }
     }
 }
@@ -83,7 +96,7 @@ impl Queue {
 #[cfg(test)]
 mod tests {
     use super::Queue;
-    use yauponroof_tests::model::history::Action::{Add, Remove};
+    use yauponroof_tests::model::history::Action::{Add, PendingRemove, Remove};
     use yauponroof_tests::model::record::Removed::{Empty, Value};
 
     #[test]
@@ -99,6 +112,20 @@ mod tests {
         assert_eq!(queue.contents(), [5, 6]);
         queue.take_back(Add(6));
         assert_eq!(queue.contents(), [5]);
+    }
+
+    #[test]
+    fn a_pending_remove_takes_the_front_value_if_there_is_one() {
+        let mut queue = Queue::new(2);
+        assert!(queue.run(PendingRemove) && queue.run(Add(5)) && queue.run(Add(6)));
+        assert!(queue.run(PendingRemove));
+        assert_eq!(queue.contents(), [6]);
+        queue.take_back(PendingRemove);
+        assert_eq!(queue.contents(), [5, 6]);
+        queue.take_back(Add(6));
+        queue.take_back(Add(5));
+        queue.take_back(PendingRemove);
+        assert!(queue.contents().is_empty());
     }
 
     #[test]

@@ -74,7 +74,7 @@ struct Search<'a, M> {
     placed: Placed,
     queue: Queue,
     memory: &'a mut M,
-    /// How many operations have returned and are not placed. Pending adds may be left out.
+    /// How many operations have returned and are not placed. Pending ones may be left out.
     to_return: usize,
 }
 
@@ -127,7 +127,8 @@ mod tests {
 
     use yauponroof_tests::logs::changes::near_outcomes_exchanged;
     use yauponroof_tests::logs::enumerate::{
-        every_log, every_log_with_joined_ticks, random_log, random_log_of_paired_operations,
+        every_log, every_log_with_joined_ticks, every_log_with_pending_remove, random_log,
+        random_log_of_paired_operations, random_log_of_paired_operations_with_pending_remove,
     };
     use yauponroof_tests::logs::samples::calls_then_returns;
     use yauponroof_tests::logs::simulation::{simulate_run, Clients};
@@ -194,6 +195,26 @@ mod tests {
             }
         });
         assert_eq!((seen.orders, seen.no_orders), (4392, 5250));
+    }
+
+    #[test]
+    fn every_short_log_with_an_open_remove() {
+        let mut seen = Seen::default();
+        every_log_with_pending_remove(6, &mut |records| seen.compare(records));
+        assert_eq!((seen.orders, seen.no_orders), (2871, 3922));
+    }
+
+    #[test]
+    fn random_logs_with_an_open_remove() {
+        let mut random = Random::new(305);
+        let mut seen = Seen::default();
+        for _ in 0..3000 {
+            let count = 1 + random.below(9);
+            let records = random_log_of_paired_operations_with_pending_remove(count, &mut random);
+            seen.compare(&records);
+            seen.compare(&in_batches(&records, 3, &mut random));
+        }
+        seen.assert_at_least(2000, 500);
     }
 
     #[test]

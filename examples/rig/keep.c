@@ -63,7 +63,7 @@ static int keep_excerpt(const char *folder, const char *name, const struct verdi
 {
     const struct log *excerpt = &verdict->excerpt;
     return write_file(folder, name, ".excerpt.log", excerpt->bytes, excerpt->length) &&
-           keep_page(folder, name, &verdict->excerpt_page);
+           keep_page(folder, name, &verdict->page);
 }
 
 /* Removes the excerpt of an earlier run, and its page. */
@@ -79,6 +79,6 @@ int keep(const char *folder, const char *name, const struct log *log,
     const struct sheet *sheet = &verdict->sheet;
     return write_file(folder, name, ".log", log->bytes, log->length) &&
            write_file(folder, name, ".sheet", sheet->bytes, sheet->length) &&
-           (sheet_verdict(sheet) == 0 ? remove_excerpt(folder, name)
-                                      : keep_excerpt(folder, name, verdict));
+           (verdict->excerpt.length == 0 ? remove_excerpt(folder, name)
+                                         : keep_excerpt(folder, name, verdict));
 }

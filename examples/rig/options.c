@@ -13,7 +13,7 @@
 /* In so many rounds of MAX_OPERATIONS adds there is a value of 32 bits for each. */
 #define MAX_ROUNDS 8000000
 
-static const struct options standard = {DRIVE_QUEUES, {4, 64}, 1000, 1, 0, NULL, NULL};
+static const struct options standard = {DRIVE_QUEUES, {4, 64, 0}, 1000, 1, 0, NULL, NULL};
 
 void tell_usage(FILE *file)
 {
@@ -24,10 +24,12 @@ void tell_usage(FILE *file)
             "    --operations N  adds and removes of all clients in a round, 1 to %u (%u)\n"
             "    --rounds N      rounds at most, 1 to %u (%u)\n"
             "    --seed N        another mix of adds and removes (%u)\n"
+            "    --lose-client   in each round one client stops for good, before a remove or after\n"
+            "                    it: the log has the call of this remove and no return\n"
             "    --go-on         does not stop at the first pattern\n"
             "    --keep FOLDER   writes files of the first pattern, or else of the last round:\n"
-            "                    QUEUE.log and QUEUE.sheet, and with a pattern\n"
-            "                    QUEUE.excerpt.log and QUEUE.excerpt.page\n"
+            "                    QUEUE.log and QUEUE.sheet, and with a pattern, if no client\n"
+            "                    was lost, QUEUE.excerpt.log and QUEUE.excerpt.page\n"
             "    --list          names the queues and what they promise\n"
             "    --help          tells this\n"
             "The exit status is 0 if every round had an order, 1 if a pattern was found, and 2 if\n"
@@ -73,6 +75,8 @@ static int read_single(const char *option, struct options *options)
 {
     if (strcmp(option, "--go-on") == 0)
         options->go_on = 1;
+    else if (strcmp(option, "--lose-client") == 0)
+        options->load.loses_client = 1;
     else if (strcmp(option, "--list") == 0)
         options->task = LIST_QUEUES;
     else if (strcmp(option, "--help") == 0)

@@ -20,8 +20,11 @@ enum outcome { ALL_WELL, PATTERN_FOUND, TROUBLE };
 struct tally {
     unsigned rounds;
     unsigned verdicts[PATTERNS + 1];  /* how many orders, and how often each pattern */
-    unsigned told;                    /* the round that log and verdict are of */
+    unsigned stops[STOPS];            /* how often no client was lost, and each way to lose one */
+    unsigned listed;                  /* how many orders list the remove of a lost client */
+    unsigned told;                    /* the round that log, loss and verdict are of */
     struct log log;                   /* that of the first pattern, or of the last round */
+    struct loss loss;
     struct verdict verdict;
 };
 
@@ -35,15 +38,19 @@ static int tally_round(const struct queue *queue, const struct options *options,
                        struct supply *supply, struct tally *tally)
 {
     static struct log log;
+    static struct loss loss;
     static struct verdict verdict;
-    if (!run_round(queue->kind, &options->load, supply, &log) || !judge(&log, &verdict))
+    if (!run_round(queue->kind, &options->load, supply, &log, &loss) || !judge(&log, &verdict))
         return trouble("that was round %u of %s", tally->rounds + 1, queue->name);
     int first = !found_pattern(tally);
     tally->rounds++;
     tally->verdicts[sheet_verdict(&verdict.sheet)]++;
+    tally->stops[loss.stop]++;
+    tally->listed += verdict.lists_pending;
     if (first) {
         tally->told = tally->rounds;
         tally->log = log;
+        tally->loss = loss;
         tally->verdict = verdict;
     }
     return 1;
@@ -66,13 +73,13 @@ static void tell_number(unsigned number, const char *name)
     printf("%u %s%s", number, name, number == 1 ? "" : "s");
 }
 
-/* The line of a queue. */
+/* The line of a queue. A client that is lost does not make all of its operations. */
 static void tell_tally(const struct queue *queue, const struct load *load,
                        const struct tally *tally)
 {
     printf("%s: ", queue->name);
     tell_number(tally->rounds, "round");
-    printf(" of ");
+    printf(load->loses_client ? " of up to " : " of ");
     tell_number(load->operations, "operation");
     printf(" by %u clients: ", load->clients);
     tell_number(tally->verdicts[0], "order");
@@ -83,17 +90,40 @@ static void tell_tally(const struct queue *queue, const struct load *load,
     printf("\n");
 }
 
+/* How clients were lost. */
+static void tell_losses(const struct tally *tally)
+{
+    printf("    clients lost: %u before a remove, %u after one\n", tally->stops[STOP_BEFORE],
+           tally->stops[STOP_AFTER]);
+    if (tally->stops[NO_STOP] > 0)
+        printf("    rounds without a remove, in which no client was lost: %u\n",
+               tally->stops[NO_STOP]);
+    printf("    orders that list the remove of the lost client: %u\n", tally->listed);
+}
+
+/* The verdict on the round that is told, if there is more to it than that all is well. */
+static void tell_round(const struct queue *queue, const struct load *load,
+                       const struct tally *tally)
+{
+    if (found_pattern(tally)) {
+        printf("    promised: %s\n", queue->kind->promise);
+        printf("round %u: ", tally->told);
+        tell_pattern(&tally->log, &tally->verdict, &tally->loss);
+    } else if (load->loses_client) {
+        printf("round %u: ", tally->told);
+        tell_order(&tally->log, &tally->verdict, &tally->loss);
+    }
+}
+
 static enum outcome drive(const struct queue *queue, const struct options *options)
 {
     static struct tally tally;
     if (!tally_rounds(queue, options, &tally))
         return TROUBLE;
     tell_tally(queue, &options->load, &tally);
-    if (found_pattern(&tally)) {
-        printf("    promised: %s\n", queue->kind->promise);
-        printf("round %u: ", tally.told);
-        tell_pattern(&tally.log, &tally.verdict);
-    }
+    if (options->load.loses_client)
+        tell_losses(&tally);
+    tell_round(queue, &options->load, &tally);
     if (options->folder != NULL &&
         !keep(options->folder, queue->name, &tally.log, &tally.verdict))
         return TROUBLE;

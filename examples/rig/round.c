@@ -28,6 +28,17 @@
  *
  * The clients share nothing else but the queue. Each notes its numbers in its own operations, and the
  * log is written when all have ended.
+ *
+ * A client that is lost
+ * ---------------------
+ * One client may be lost in a round. It takes a number before it calls a remove, and no more: it stops
+ * before the remove enters the queue or after it has come back, and then leaves the queue as all do.
+ * The log has the call of this remove and no return, so the remove precedes nothing. A correct queue
+ * still has a legal order: the order in which it did the operations. If the client stopped before the
+ * remove, this order leaves the remove out. If it stopped after the remove, this order lists it, and
+ * it takes the front value or finds the queue empty, as a remove without return may.
+ *
+ * No client is stopped inside a remove, so whether a queue bears that is not seen.
  */
 
 #include "round.h"
@@ -45,9 +56,11 @@
 struct operation {
     int adds;                   /* whether it is an add */
     int yields;                 /* whether the client lets others go first */
+    enum stop stop;             /* whether the client is lost at it, and where */
     int done;                   /* whether a value was added or removed */
     uint32_t value;             /* that value */
-    unsigned called, returned;  /* the numbers taken before and after it, its ticks */
+    unsigned called, returned;  /* the numbers taken before and after it, its ticks; no second one
+                                   if the client is lost at it */
 };
 
 struct client {
@@ -62,6 +75,7 @@ static void *queue;
 static atomic_uint to_come;
 static atomic_uint counter;
 static struct client clients[MAX_CLIENTS];
+static const struct operation *lost;  /* the remove at which a client is lost; NULL if none is */
 
 /* Waits until all clients have come. They wait awake, since one that has to be woken would find the
    others done. */
@@ -80,11 +94,14 @@ static unsigned take_number(void)
 static void operate(struct operation *operation)
 {
     operation->called = take_number();
+    if (operation->stop == STOP_BEFORE)
+        return;
     if (operation->adds)
         operation->done = kind->add(queue, operation->value);
     else
         operation->done = kind->remove(queue, &operation->value);
-    operation->returned = take_number();
+    if (operation->stop == NO_STOP)
+        operation->returned = take_number();
 }
 
 /* The thread of a client. */
@@ -113,7 +130,7 @@ static unsigned draw(struct supply *supply, unsigned bound)
 
 /* Deals out the operations, adds and removes at random. Now and then a client is to yield first, so
    that clients take turns within a round also where they share a processor. */
-static void plan(const struct load *load, struct supply *supply)
+static void plan_operations(const struct load *load, struct supply *supply)
 {
     for (unsigned c = 0; c < load->clients; c++) {
         struct client *client = &clients[c];
@@ -123,8 +140,51 @@ static void plan(const struct load *load, struct supply *supply)
             operation->adds = draw(supply, 2) == 0;
             operation->yields = draw(supply, 4) == 0;
             operation->value = operation->adds ? supply->value++ : 0;
+            operation->stop = NO_STOP;
         }
     }
+}
+
+static unsigned count_removes(const struct client *client)
+{
+    unsigned removes = 0;
+    for (unsigned i = 0; i < client->count; i++)
+        removes += !client->operations[i].adds;
+    return removes;
+}
+
+/* Ends the operations of a client with its remove of that number, counted from 0. */
+static struct operation *end_with_remove(struct client *client, unsigned number)
+{
+    unsigned i = 0;
+    while (client->operations[i].adds || number-- > 0)
+        i++;
+    client->count = i + 1;
+    return &client->operations[i];
+}
+
+/* Chooses the remove at which a client is lost, any of the round, and on which side of it. */
+static void plan_loss(const struct load *load, struct supply *supply)
+{
+    unsigned removes = 0, c = 0;
+    for (unsigned i = 0; i < load->clients; i++)
+        removes += count_removes(&clients[i]);
+    if (removes == 0)
+        return;
+    unsigned number = draw(supply, removes);
+    while (number >= count_removes(&clients[c]))
+        number -= count_removes(&clients[c++]);
+    struct operation *last = end_with_remove(&clients[c], number);
+    last->stop = draw(supply, 2) == 0 ? STOP_BEFORE : STOP_AFTER;
+    lost = last;
+}
+
+static void plan(const struct load *load, struct supply *supply)
+{
+    lost = NULL;
+    plan_operations(load, supply);
+    if (load->loses_client)
+        plan_loss(load, supply);
 }
 
 /* Starts the clients and waits for them to end. */
@@ -157,7 +217,8 @@ static int put_together(const struct load *load, struct moment *moments)
             if (operation->adds && !operation->done)
                 return trouble("an add failed");
             moments[operation->called] = moment;
-            moments[operation->returned] = moment;
+            if (operation->stop == NO_STOP)
+                moments[operation->returned] = moment;
         }
     return 1;
 }
@@ -185,15 +246,23 @@ static int write_log(const struct load *load, struct log *log)
     if (!put_together(load, moments))
         return 0;
     yr_recorder_begin(&recorder, log->bytes, sizeof log->bytes);
-    for (unsigned number = 0; number < 2 * load->operations; number++)
+    unsigned records = atomic_load(&counter);  /* every number that was taken has one */
+    for (unsigned number = 0; number < records; number++)
         if (!record(&recorder, &moments[number], number))
             return trouble("the recorder does not take record %u", number);
     log->length = yr_recorder_length(&recorder);
     return 1;
 }
 
+static void note_loss(struct loss *loss)
+{
+    loss->stop = lost == NULL ? NO_STOP : lost->stop;
+    loss->found = loss->stop == STOP_AFTER && lost->done;
+    loss->value = loss->found ? lost->value : 0;
+}
+
 int run_round(const struct queue_kind *of_kind, const struct load *load, struct supply *supply,
-              struct log *log)
+              struct log *log, struct loss *loss)
 {
     kind = of_kind;
     queue = kind->make(load->operations);
@@ -204,5 +273,6 @@ int run_round(const struct queue_kind *of_kind, const struct load *load, struct 
     if (!run_clients(load->clients))
         return 0;
     kind->destroy(queue);
+    note_loss(loss);
     return write_log(load, log);
 }

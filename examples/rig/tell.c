@@ -2,7 +2,7 @@
 
 #include <stdio.h>
 
-#include "yauponroof_recorder.h"
+#include "records.h"
 
 static const struct {
     const char *name, *meaning;
@@ -19,61 +19,6 @@ static const struct {
 const char *pattern_name(unsigned pattern)
 {
     return patterns[pattern].name;
-}
-
-/* A record of a log, with the number of the operation that it belongs to. */
-struct record {
-    enum yr_recorder_kind kind;
-    unsigned client, operation;
-    uint32_t tick, value;
-};
-
-/* The number in so many bytes. */
-static uint32_t number_at(const uint8_t *bytes, unsigned count)
-{
-    uint32_t number = 0;
-    while (count-- > 0)
-        number = number << 8 | *bytes++;
-    return number;
-}
-
-static int has_value(enum yr_recorder_kind kind)
-{
-    return kind == YR_RECORDER_ADD_CALLED || kind == YR_RECORDER_REMOVE_RETURNED;
-}
-
-static int is_call(enum yr_recorder_kind kind)
-{
-    return kind == YR_RECORDER_ADD_CALLED || kind == YR_RECORDER_REMOVE_CALLED;
-}
-
-/* Reads the records of a readable log of clients below MAX_CLIENTS; answers how many there are. */
-static unsigned read_records(const struct log *log, struct record *records)
-{
-    unsigned count = number_at(log->bytes + 1, 2), operations = 0;
-    unsigned at_work_on[MAX_CLIENTS];
-    const uint8_t *bytes = log->bytes + 3;
-    for (unsigned i = 0; i < count; i++) {
-        struct record *record = &records[i];
-        record->kind = (enum yr_recorder_kind)bytes[1];
-        record->client = number_at(bytes + 2, 2);
-        record->tick = number_at(bytes + 4, 4);
-        record->value = has_value(record->kind) ? number_at(bytes + 8, 4) : 0;
-        if (is_call(record->kind))
-            at_work_on[record->client] = operations++;
-        record->operation = at_work_on[record->client];
-        bytes += 1 + bytes[0];
-    }
-    return count;
-}
-
-/* The record that names the value of an operation, or that it found none: the call of an add, the
-   return of a remove. */
-static const struct record *telling_record(const struct record *records, unsigned operation)
-{
-    while (records->operation != operation || records->kind == YR_RECORDER_REMOVE_CALLED)
-        records++;
-    return records;
 }
 
 static const char *operation_name(const struct record *record)
@@ -135,7 +80,7 @@ static void tell_event(const struct record *record, const struct record *records
 }
 
 /* The records of an excerpt. Each is the record of the log whose index is its tick. */
-static void tell_excerpt(const struct record *excerpt, unsigned count, const struct record *log)
+static void tell_events(const struct record *excerpt, unsigned count, const struct record *log)
 {
     printf("    operation  in the log  tick\n");
     for (unsigned i = 0; i < count; i++) {
@@ -154,27 +99,71 @@ static void tell_sheet(const struct sheet *sheet, const struct record *records)
     tell_list(sheet, records);
 }
 
-/* The page of an excerpt as it was written, or that there is none. */
-static void tell_page(const struct page *page)
+/* The page of an excerpt or of a log as it was written, or that there is none. */
+static void tell_page(const struct page *page, const char *whose)
 {
     if (page->length == 0) {
-        printf("the excerpt has no page: it has more than %d records\n", YR_PAGE_RECORDS);
+        printf("the %s has no page: it has more than %d records\n", whose, YR_PAGE_RECORDS);
         return;
     }
-    printf("the excerpt's page, a line for each operation and a column for each record:\n");
+    printf("the %s's page, a line for each operation and a column for each record:\n", whose);
     fwrite(page->bytes, 1, page->length, stdout);
 }
 
-void tell_pattern(const struct log *log, const struct verdict *verdict)
+/* The excerpt, judged and drawn. */
+static void tell_excerpt(const struct verdict *verdict, const struct record *records)
 {
-    struct record records[YR_MAX_RECORDS], excerpt[YR_MAX_RECORDS];
+    struct record excerpt[YR_MAX_RECORDS];
     unsigned count = read_records(&verdict->excerpt, excerpt);
-    read_records(log, records);
+    printf("its excerpt, judged as a log of its own: ");
+    tell_sheet(&verdict->excerpt_sheet, excerpt);
+    tell_events(excerpt, count, records);
+    tell_page(&verdict->page, "excerpt");
+}
+
+/* The remove that never returned, and how its client was lost. */
+static void tell_pending(const struct record *call, const struct loss *loss)
+{
+    printf("    remove %u by client %u never returned: the client was lost ", call->operation,
+           call->client);
+    if (loss->stop == STOP_BEFORE)
+        printf("before the remove entered the queue\n");
+    else if (loss->found)
+        printf("after it had taken value %lu\n", (unsigned long)loss->value);
+    else
+        printf("after it had found the queue empty\n");
+}
+
+void tell_pattern(const struct log *log, const struct verdict *verdict, const struct loss *loss)
+{
+    struct record records[YR_MAX_RECORDS];
+    const struct record *pending = pending_remove(records, read_records(log, records));
     tell_sheet(&verdict->sheet, records);
     printf("    %s\n", patterns[sheet_verdict(&verdict->sheet)].meaning);
     tell_operations(&verdict->sheet, records);
-    printf("its excerpt, judged as a log of its own: ");
-    tell_sheet(&verdict->excerpt_sheet, excerpt);
-    tell_excerpt(excerpt, count, records);
-    tell_page(&verdict->excerpt_page);
+    if (pending == NULL) {
+        tell_excerpt(verdict, records);
+        return;
+    }
+    tell_pending(pending, loss);
+    printf("    the pattern leaves it out, and there is no order with it either\n");
+    printf("no excerpt is made of a log in which a remove never returned\n");
+    tell_page(&verdict->page, "log");
+}
+
+void tell_order(const struct log *log, const struct verdict *verdict, const struct loss *loss)
+{
+    struct record records[YR_MAX_RECORDS];
+    const struct record *pending = pending_remove(records, read_records(log, records));
+    printf("order\n");
+    if (pending == NULL) {
+        printf("    no client was lost: the round has no remove\n");
+        return;
+    }
+    tell_pending(pending, loss);
+    if (verdict->lists_pending)
+        printf("    the order lists it: it takes value %lu\n",
+               (unsigned long)verdict->pending_takes);
+    else
+        printf("    the order leaves it out\n");
 }

@@ -36,7 +36,7 @@ pub const KINDS: [Kind; 5] = [
 ];
 
 /// How many bytes behind the first one tell how all is done, and not what.
-pub const HOW: usize = 16;
+pub const HOW: usize = 17;
 
 /// Compares what an input is made into.
 pub fn compare(input: &[u8], reached: &mut Reached) {
@@ -51,15 +51,15 @@ pub fn compare(input: &[u8], reached: &mut Reached) {
             compare_replay(what.rest(), sheet, place, reached);
         }
         Kind::WrittenLog => {
+            let records = written_records(Writer::new(&mut how), what);
             let calls = Calls::new(&mut how);
             let damage = Damage::new(&mut how);
-            let records = written_records(Writer::new(&mut how), what);
             calls.compare(&damage.done_to(records), reached);
         }
         Kind::WrittenOrder => {
+            let records = written_records(Writer::new(&mut how), what);
             let place = how.pick(&Place::BOTH);
             let changes = Changes::new(&mut how);
-            let records = written_records(Writer::new(&mut how), what);
             let log = log(&records);
             let sheet = changes.sheet_for(&log, operation_count(&records) as u16);
             compare_replay(&log, &sheet, place, reached);

@@ -11,12 +11,12 @@ use yauponroof_tests::library::guarded::written_twice;
 use yauponroof_tests::library::outcomes::{excerpt_made, judged, narrowing_made};
 use yauponroof_tests::library::{excerpt, judge, narrow};
 use yauponroof_tests::model::history::operations;
+use yauponroof_tests::model::judgement::{judgement, Judgement};
 use yauponroof_tests::model::page::LINE;
 use yauponroof_tests::model::projection::values;
 use yauponroof_tests::model::reader::{self, operation_count};
 use yauponroof_tests::model::record::Record;
 use yauponroof_tests::model::search::has_linearization;
-use yauponroof_tests::model::violations::first_violation;
 use yauponroof_tests::{answered, Answer, Outcome};
 
 use crate::choices::Choices;
@@ -52,7 +52,7 @@ impl Calls {
             // Of the logs that a tally compares, the first one is judged too.
             let mut tally = Tally::of_all_entries();
             reached.count(Of::Check, tally.compare(log));
-            reached.count_verdicts(tally.archives().seen());
+            reached.count_verdicts(tally.archives());
             if let Ok(records) = reader::read(log) {
                 compare_with_search(log, &records);
                 self.compare_rooms(log, reached);
@@ -110,12 +110,12 @@ impl Calls {
     }
 }
 
-/// A pattern occurs exactly if the search finds no order.
+/// A pattern is told exactly if the search finds no order.
 fn compare_with_search(log: &[u8], records: &[Record]) {
     let operations = operations(records);
     if operations.len() <= FEW {
         let has_order = has_linearization(&operations);
-        let violation = first_violation(&operations);
-        assert_eq!(violation.is_none(), has_order, "of {}", show(log));
+        let is_order = matches!(judgement(&operations), Judgement::Order(_));
+        assert_eq!(is_order, has_order, "of {}", show(log));
     }
 }

@@ -1,5 +1,6 @@
 //! Which answers the library has given, so that a run that no longer reaches some answer is noticed.
 
+use yauponroof_tests::compare::archive::Archives;
 use yauponroof_tests::{Answer, NUMBERS};
 
 /// What is counted: the answers of an entry, and what accepted ones tell.
@@ -11,6 +12,8 @@ pub enum Of {
     Replayed,
     Judge,
     Verdict,
+    /// 1 for an order that lists an open remove.
+    Took,
     Excerpt,
     Narrow,
     Page,
@@ -26,13 +29,14 @@ pub enum Of {
 /// The name of each, and the numbers that are to be reached. Of an answer 0 is accepted, and the
 /// others are refusals. 21 of a feed is not: no input here holds 1,024 records. Refused logs are counted
 /// at yr_check and yr_replay; that the other calls refuse them alike is compared.
-const TO_REACH: [(&str, &[usize]); 14] = [
+const TO_REACH: [(&str, &[usize]); 15] = [
     ("yr_check", &[0, 1, 2, 3, 4, 5, 6, 7, 8, 9, 10, 31]),
     ("yr_replay", &[0, 1, 2, 3, 4, 5, 6, 7, 8, 9, 10, 11, 31]),
     ("yr_replay, no and yes", &[0, 1]),
     ("yr_judge", &[0, 24]),
     ("yr_judge, verdict", &[0, 1, 2, 3, 4, 5, 6]),
-    ("yr_excerpt", &[0, 23, 24]),
+    ("yr_judge, an open remove listed", &[1]),
+    ("yr_excerpt", &[0, 23, 24, 32]),
     ("yr_narrow", &[0, 24]),
     ("yr_page", &[0, 24, 30]),
     ("yr_page, no lines and some", &[0, 1]),
@@ -40,7 +44,7 @@ const TO_REACH: [(&str, &[usize]); 14] = [
     ("yr_feed", &[0, 1, 4, 5, 6, 7, 8, 9, 20, 24, 25, 31]),
     ("yr_close", &[0, 10, 20, 24, 25]),
     ("yr_sheet", &[0, 22, 24, 25]),
-    ("yr_session_excerpt", &[0, 22, 23, 24, 25]),
+    ("yr_session_excerpt", &[0, 22, 23, 24, 25, 32]),
 ];
 
 /// How often each number was reached.
@@ -69,11 +73,12 @@ impl Reached {
         }
     }
 
-    pub fn count_verdicts(&mut self, seen: [u64; 7]) {
+    pub fn count_verdicts(&mut self, archives: &Archives) {
         let verdicts = self.0[Of::Verdict as usize].iter_mut();
         verdicts
-            .zip(seen)
+            .zip(archives.seen())
             .for_each(|(verdict, times)| *verdict += times);
+        self.0[Of::Took as usize][1] += archives.took();
     }
 
     /// Prints how often each number was reached, and last 'N passed, M failed'; whether all were.

@@ -35,7 +35,7 @@ pub fn write(folder: &Path) -> io::Result<()> {
 
 /// Inputs of every kind, with any bytes behind the first.
 fn by_chance() -> Vec<Vec<u8>> {
-    let mut random = Random::new(1);
+    let mut random = Random::new(2);
     let mut input = |kind| {
         let any = (0..LENGTH).map(|_| random.next_u64() as u8);
         [kind as u8].into_iter().chain(any).collect()
@@ -61,7 +61,8 @@ fn samples() -> Vec<Vec<u8>> {
     inputs
 }
 
-/// Runs of a correct queue, and chains of values under an empty remove.
+/// Runs of a correct queue, and chains of values under an empty remove. From some of the runs a remove
+/// never came back.
 fn written_samples() -> Vec<Vec<u8>> {
     let runs = (0..4).map(|seed| simulate(3, Clients::Reused, 24, seed));
     let chains = [
@@ -75,14 +76,25 @@ fn written_samples() -> Vec<Vec<u8>> {
         with_empty_removes(&chain, &[(2, chain.len())])
     });
     let records = runs.chain(chains);
+    let returned = records.flat_map(|records| written(&[0], &choices_for(&records)));
+    let open = (0..4).flat_map(|seed| written(&[1], &choices_for(&run_with_open_remove(seed))));
+    returned.chain(open).collect()
+}
+
+/// A run of a correct queue without the return of its last remove, which no client follows.
+fn run_with_open_remove(seed: u64) -> Vec<Record> {
+    let mut records = simulate(3, Clients::Reused, 24, seed);
+    let is_return = |record: &Record| matches!(record.event, Event::ReturnRemove(_));
+    let last = records.iter().rposition(is_return).expect("a remove");
+    let client = records.remove(last).client;
+    let tail = records.split_off(last);
+    records.extend(tail.iter().filter(|record| record.client != client));
     records
-        .flat_map(|records| written(&choices_for(&records)))
-        .collect()
 }
 
 /// The inputs that write these records and hand their log to all entries, their order to replay, and
-/// themselves to a session.
-fn written(choices: &[u8]) -> [Vec<u8>; 3] {
+/// themselves to a session. How they are written begins with these bytes.
+fn written(how: &[u8], choices: &[u8]) -> [Vec<u8>; 3] {
     let steps = choices
         .iter()
         .flat_map(|&choice| [FEED[0], FEED[1], choice]);
@@ -94,9 +106,9 @@ fn written(choices: &[u8]) -> [Vec<u8>; 3] {
         .chain(EXCERPT)
         .collect();
     [
-        input(Kind::WrittenLog, &[], choices),
-        input(Kind::WrittenOrder, &[], choices),
-        input(Kind::Script, &[], &script),
+        input(Kind::WrittenLog, how, choices),
+        input(Kind::WrittenOrder, how, choices),
+        input(Kind::Script, how, &script),
     ]
 }
 

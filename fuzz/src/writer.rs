@@ -1,6 +1,6 @@
 //! A writer of readable logs: a few clients, whose operations overlap, and ticks that are often equal.
 //! What a remove returns is mostly what a correct queue could give it, so that many logs have an order
-//! or nearly do.
+//! or nearly do. In some logs one remove never returns.
 
 use yauponroof_tests::model::reader;
 use yauponroof_tests::model::record::{
@@ -47,6 +47,8 @@ enum Work {
 /// Writes one record after the other.
 #[derive(Clone)]
 pub struct Writer {
+    /// How many removes do not return in the end: none or one.
+    stay_open: usize,
     client_step: u16,
     value_step: u32,
     tick: u32,
@@ -65,6 +67,7 @@ impl Writer {
     /// A writer of a log from its first record on.
     pub fn new(how: &mut Choices) -> Writer {
         Writer {
+            stay_open: how.below(2),
             client_step: how.pick(&CLIENT_STEPS),
             value_step: how.pick(&VALUE_STEPS),
             tick: how.pick(&FIRST_TICKS),
@@ -94,9 +97,10 @@ impl Writer {
         })
     }
 
-    /// The return of a remove that lacks it, if there is one.
+    /// The return of a remove that lacks it, if there is one beside those that stay open.
     pub fn lacking_return(&mut self, choices: &mut Choices) -> Option<Record> {
-        let client = (0..CLIENTS).find(|&client| self.work[client] == Work::Remove)?;
+        let is_open = |&client: &usize| self.work[client] == Work::Remove;
+        let client = (0..CLIENTS).filter(is_open).nth(self.stay_open)?;
         let choice = usize::from(choices.byte());
         Some(self.return_remove(client, choice))
     }

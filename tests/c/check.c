@@ -95,11 +95,16 @@ static void check_records(void)
     log_begin(&log);
     log_record(&log, CALL_ADD, 1, 7);
     log_record(&log, CALL_REMOVE, 2, 0);
+    expect_log(&log, 0, 2, "one remove does not return");
     log_record(&log, CALL_REMOVE, 3, 0);
-    expect_log(&log, YR_REFUSAL_PENDING_REMOVE, 1, "two removes do not return");
+    expect_log(&log, YR_REFUSAL_PENDING_REMOVE, 2, "two removes do not return");
+    log_record(&log, CALL_REMOVE, 0, 0);
+    expect_log(&log, YR_REFUSAL_PENDING_REMOVE, 2, "three removes do not return");
+    log_record(&log, RETURN_EMPTY, 2, 0);
+    expect_log(&log, YR_REFUSAL_PENDING_REMOVE, 3, "the first of three returns");
 
     log_byte(&log, 0);
-    expect_log(&log, YR_REFUSAL_BYTES, 3, "a byte is left behind record 2");
+    expect_log(&log, YR_REFUSAL_BYTES, 5, "a byte is left behind record 4");
 
     log_begin(&log);
     log_record(&log, CALL_ADD, 1, 7);
@@ -138,7 +143,7 @@ static void check_repeated_ticks(void)
     log_record(&log, RETURN_EMPTY, 1, 0);
     log_record(&log, CALL_REMOVE, 2, 0);
     log_record(&log, CALL_REMOVE, 1, 0);
-    expect_log(&log, YR_REFUSAL_PENDING_REMOVE, 2, "two removes do not return");
+    expect_log(&log, YR_REFUSAL_PENDING_REMOVE, 3, "two removes do not return");
     log_join_all(&log);
     expect_log(&log, YR_REFUSAL_TICK_REPEATED, 3, "client 1 called at the tick of its return");
 }
@@ -155,6 +160,13 @@ static void check_largest(void)
     count(memcmp(log.bytes, copy.bytes, log.length) == 0, "the log is unchanged");
     log_pending_adds(&log, YR_MAX_RECORDS + 1);
     expect_log(&log, YR_REFUSAL_RECORDS, 0, "1,025 adds");
+    log_pending_adds(&log, YR_MAX_RECORDS - 1);
+    log_record(&log, CALL_REMOVE, YR_MAX_RECORDS, 0);
+    expect_log(&log, 0, 1024, "1,023 adds and a remove that does not return");
+    log_pending_adds(&log, YR_MAX_RECORDS - 2);
+    log_record(&log, CALL_REMOVE, YR_MAX_RECORDS, 0);
+    log_record(&log, CALL_REMOVE, YR_MAX_RECORDS + 1, 0);
+    expect_log(&log, YR_REFUSAL_PENDING_REMOVE, 1023, "1,022 adds and two such removes");
     log_pending_adds_of_slot(&log, YR_MAX_RECORDS);
     expect_log(&log, 0, 1024, "1,024 adds of values that share a slot");
     log_calls_then_returns(&log, &order);

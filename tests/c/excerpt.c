@@ -131,11 +131,36 @@ static void check_refused(void)
     left_out(RETURN_ADD, 1, 0);
     expect_refused(YR_REFUSAL_ORDER, 0, "the verdict is an order");
     left_out(CALL_REMOVE, 2, 0);
-    expect_refused(YR_REFUSAL_PENDING_REMOVE, 2, "a remove without return");
+    left_out(CALL_REMOVE, 3, 0);
+    expect_refused(YR_REFUSAL_PENDING_REMOVE, 3, "a second remove without return");
     run.length--;
-    expect_refused(YR_REFUSAL_BYTES, 2, "the bytes end inside record 2");
+    expect_refused(YR_REFUSAL_BYTES, 3, "the bytes end inside record 3");
     log_simulate(&run, &order, CLIENTS_REUSED);
     expect_refused(YR_REFUSAL_ORDER, 0, "a run of 8 clients");
+}
+
+/* There is no excerpt of a log with an open remove, whatever the verdict. */
+static void check_pending_remove(void)
+{
+    count(YR_REFUSAL_UNRETURNED == 32, "YR_REFUSAL_UNRETURNED");
+    begin();
+    left_out(CALL_REMOVE, 3, 0);
+    expect_refused(YR_REFUSAL_UNRETURNED, 0, "a lone open remove");
+    left_out(CALL_ADD, 1, 7);
+    left_out(RETURN_ADD, 1, 0);
+    left_out(CALL_REMOVE, 1, 0);
+    left_out(RETURN_EMPTY, 1, 0);
+    count(verdict(run.bytes, run.length) == 0, "the open remove took 7");
+    expect_refused(YR_REFUSAL_UNRETURNED, 0, "the verdict is an order with the open remove");
+    left_out(CALL_REMOVE, 2, 0);
+    left_out(RETURN_VALUE, 2, 9);
+    count(verdict(run.bytes, run.length) == 1, "nobody added 9");
+    expect_refused(YR_REFUSAL_UNRETURNED, 0, "the verdict is a pattern");
+    for (unsigned pattern = 1; pattern <= 6; pattern++) {
+        log_late_pattern_open(&run, &order, pattern, OPEN_AFTER);
+        count(verdict(run.bytes, run.length) == pattern, "a pattern at the end");
+        expect_refused(YR_REFUSAL_UNRETURNED, 0, "a pattern at the end, and an open remove");
+    }
 }
 
 static void check_large(void)
@@ -158,6 +183,7 @@ int main(void)
     check_stuck();
     check_false_empty();
     check_refused();
+    check_pending_remove();
     check_large();
     return counted();
 }

@@ -86,6 +86,36 @@ static void check_pending_add(void)
     expect_sheet(both, sizeof both, "an add without return whose value was removed is listed");
 }
 
+/* A remove that never returns: left out, then as the remove of a value. */
+static void check_pending_remove(void)
+{
+    const uint8_t nothing[] = {1, 0, 0, 0};
+    const uint8_t add_alone[] = {1, 0, 0, 1, 0, 1};
+    const uint8_t taken[] = {1, 0, 0, 3, 0, 1, 0, 0, 0, 2};
+    const uint8_t false_empty[] = {1, 6, 0, 2, 0, 1, 0, 0};
+    log_begin(&run);
+    log_record(&run, CALL_REMOVE, 3, 0);
+    expect_sheet(nothing, sizeof nothing, "a lone open remove");
+    log_record(&run, CALL_ADD, 1, 0);
+    log_record(&run, RETURN_ADD, 1, 0);
+    expect_sheet(add_alone, sizeof add_alone, "an open remove and an add of 0");
+    log_record(&run, CALL_REMOVE, 1, 0);
+    log_record(&run, RETURN_EMPTY, 1, 0);
+    expect_sheet(taken, sizeof taken, "the open remove took the value before the empty one came");
+    log_record(&run, CALL_REMOVE, 1, 0);
+    expect_refused(YR_REFUSAL_PENDING_REMOVE, 5, "a second open remove");
+
+    log_begin(&run);
+    log_record(&run, CALL_ADD, 1, 0);
+    log_record(&run, RETURN_ADD, 1, 0);
+    log_record(&run, CALL_REMOVE, 1, 0);
+    log_record(&run, RETURN_EMPTY, 1, 0);
+    log_record(&run, CALL_REMOVE, 3, 0);
+    expect_sheet(false_empty, sizeof false_empty, "an open remove that is called too late");
+    log_join(&run, 4);
+    expect_order(3, "an open remove that is called at the tick of the return");
+}
+
 static void check_patterns(void)
 {
     const uint8_t unknown[] = {1, 1, 0, 1, 0, 0};
@@ -172,6 +202,27 @@ static void check_late_patterns(void)
     }
 }
 
+/* A pattern at the end of 1,023 records with an open remove that took its first value, or that was
+   called too late. */
+static void check_late_patterns_open(void)
+{
+    static const unsigned listed[] = {0, 1, 2, 2, 3, 4, 2};
+    for (unsigned pattern = 1; pattern <= 6; pattern++) {
+        log_late_pattern_open(&run, &order, pattern, OPEN_BEFORE);
+        yr_answer operations = yr_check(run.bytes, run.length);
+        expect_answer(operations, 0, YR_MAX_RECORDS / 2, "512 operations");
+        unsigned first = YR_VALUE(operations) - listed[pattern];
+        if (pattern == 4 || pattern == 6)
+            expect_order(512, "an open remove that took a value");
+        else
+            expect_pattern(pattern, listed[pattern], first, "an open remove that does not help");
+        log_late_pattern_open(&run, &order, pattern, OPEN_AFTER);
+        first--;
+        expect_pattern(pattern, listed[pattern], pattern == 6 ? first + 1 : first,
+                       "an open remove that is called too late");
+    }
+}
+
 static void check_largest(void)
 {
     log_simulate(&run, &order, CLIENTS_REUSED);
@@ -204,6 +255,13 @@ static void check_largest(void)
     expect_order(510, "170 empty removes over 170 values");
     log_relay(&run, &order, 170, 170, LAST_FALSE);
     expect_pattern(6, 171, 170, "170 empty removes over 170 values, the last one false");
+    log_relay_open(&run, &order, 170, 170, LAST_TRUE);
+    expect_order(510, "170 empty removes over 170 values, the last of which an open remove took");
+    log_relay_open(&run, &order, 170, 170, LAST_FALSE);
+    expect_pattern(6, 171, 1, "the same, and the last empty remove is false");
+    log_pending_adds(&run, YR_MAX_RECORDS - 1);
+    log_record(&run, CALL_REMOVE, YR_MAX_RECORDS, 0);
+    expect_order(0, "1,023 adds without return and a remove without");
 }
 
 /* Adds without return whose values are removed have the longest sheet. */
@@ -224,10 +282,12 @@ int main(void)
 {
     check_second_run();
     check_pending_add();
+    check_pending_remove();
     check_patterns();
     check_equal_ticks();
     check_refused_logs();
     check_late_patterns();
+    check_late_patterns_open();
     check_largest();
     check_longest_sheet();
     return counted();

@@ -97,6 +97,14 @@ static inline void log_join_all(struct log *log)
         log_join(log, i);
 }
 
+/* Takes back the last record. */
+static inline void log_drop_last(struct log *log)
+{
+    log->length = log_start(log, log->records - 1);
+    log->records--;
+    log_set_n(log, log->records);
+}
+
 /* n adds that never return, a client each. */
 static inline void log_pending_adds(struct log *log, unsigned n)
 {
@@ -138,11 +146,12 @@ static inline void log_each_refused(struct log *log,
                                     void (*expect)(uint32_t, uint32_t, const char *))
 {
     log_begin(log);
-    log_record(log, CALL_ADD, 1, 7);
     log_record(log, CALL_REMOVE, 2, 0);
-    expect(YR_REFUSAL_PENDING_REMOVE, 1, "a remove without return");
+    log_record(log, CALL_ADD, 1, 7);
+    log_record(log, CALL_REMOVE, 3, 0);
+    expect(YR_REFUSAL_PENDING_REMOVE, 2, "a second remove without return");
     log_record(log, RETURN_ADD, 2, 0);
-    expect(YR_REFUSAL_RETURN, 2, "a remove returns as an add");
+    expect(YR_REFUSAL_RETURN, 3, "a remove returns as an add");
     log_begin(log);
     log_record(log, CALL_ADD, 1, 7);
     log_record(log, RETURN_ADD, 1, 0);
@@ -467,6 +476,32 @@ static inline void log_late_pattern(struct log *log, struct sheet *order, unsign
     sheet_begin(order);
 }
 
+/* When an open remove is called: before the records of a pattern, or after them. */
+enum open_remove { OPEN_BEFORE, OPEN_AFTER };
+
+/* The same with a remove of client 9 that never returns, in 1,023 records. If it is called before the
+   records of pattern 4 or 6, it takes the first value of these, and the order is legal. */
+static inline void log_late_pattern_open(struct log *log, struct sheet *order, unsigned pattern,
+                                         enum open_remove called)
+{
+    static const unsigned records[] = {0, 2, 6, 4, 6, 8, 4};
+    log_simulate_emptied(log, order, records[pattern] + 2);
+    unsigned open = sheet_k(order->bytes);
+    if (called == OPEN_BEFORE)
+        log_record(log, CALL_REMOVE, WORKERS + 1, 0);
+    log_occurrence(log, pattern);
+    if (called == OPEN_AFTER)
+        log_record(log, CALL_REMOVE, WORKERS + 1, 0);
+    if (called == OPEN_AFTER || (pattern != 4 && pattern != 6)) {
+        sheet_begin(order);
+        return;
+    }
+    sheet_list(order, open + 1);
+    sheet_list(order, open);
+    for (unsigned i = 2; i <= records[pattern] / 2; i++)
+        sheet_list(order, open + i);
+}
+
 /* What the last of the empty removes of a relay is. */
 enum last_empty { LAST_TRUE, LAST_FALSE };
 
@@ -504,6 +539,15 @@ static inline void log_relay(struct log *log, struct sheet *order, unsigned valu
         sheet_list(order, 1 + empties + i);
     for (unsigned i = 0; i < empties; i++)
         sheet_list(order, 1 + i);
+}
+
+/* The same, but the last remove never returns. It took the last value, and no other fate of it gives
+   an order: if it is left out, all empty removes are false. */
+static inline void log_relay_open(struct log *log, struct sheet *order, unsigned values,
+                                  unsigned empties, enum last_empty last)
+{
+    log_relay(log, order, values, empties, last);
+    log_drop_last(log);
 }
 
 #endif /* LOGS_H */

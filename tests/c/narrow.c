@@ -121,9 +121,26 @@ static void check_large(void)
                   "170 values, and none of 170 empty removes");
 }
 
+/* A remove that never returns is on no value. */
+static void check_pending_remove(void)
+{
+    const uint32_t values[] = {7, 0};
+    log_begin(&run);
+    log_begin(&kept);
+    log_record(&run, CALL_REMOVE, 3, 0);
+    expect_kept(values, 2, "a lone open remove");
+    log_begin(&run);
+    log_record(&run, CALL_ADD, 1, 7);
+    log_record(&run, RETURN_ADD, 1, 0);
+    kept = run;
+    log_record(&run, CALL_REMOVE, 3, 0);
+    expect_kept(values, 2, "an add, and an open remove");
+}
+
 int main(void)
 {
     check_values();
+    check_pending_remove();
     log_each_refused(&run, expect_refused);
     check_large();
     return counted();

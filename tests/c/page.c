@@ -96,6 +96,23 @@ static void check_every_kind(void)
     expect_line(5, "   5 A20         .........#");
 }
 
+/* A remove that never returns is a lone R. */
+static void check_pending_remove(void)
+{
+    log_begin(&run);
+    log_record(&run, CALL_REMOVE, 3, 0);
+    expect_lines(1, "a lone open remove");
+    expect_line(0, "   0 R           #");
+    log_record(&run, CALL_ADD, 1, 0);
+    log_record(&run, RETURN_ADD, 1, 0);
+    log_record(&run, CALL_REMOVE, 1, 0);
+    log_record(&run, RETURN_VALUE, 1, 0);
+    expect_lines(3, "an open remove, an add and a remove of 0");
+    expect_line(0, "   0 R           #####");
+    expect_line(1, "   1 A0          .##..");
+    expect_line(2, "   2 R0          ...##");
+}
+
 /* Expects line i of n open adds: number and value are i, and all columns from i on are marked. */
 static void expect_open_add(unsigned i, unsigned n)
 {
@@ -153,6 +170,7 @@ int main(void)
     check_constants();
     check_second_run();
     check_every_kind();
+    check_pending_remove();
     check_most_records();
     check_too_many_records();
     check_refused_logs();

@@ -162,7 +162,19 @@ static void check_unchecked(void)
     expect_refused(RETURN_ADD, 2, 9, 0, YR_REFUSAL_RETURN, "another client returns");
     expect_refused(CALL_ADD, 2, 8, 8, YR_REFUSAL_TICK, "the tick falls");
     expect_refused(CALL_ADD, 2, 9, 7, YR_REFUSAL_VALUE, "7 is added again");
-    expect_refused(CALL_REMOVE, 2, 9, 0, YR_REFUSAL_PENDING_REMOVE, "a remove is open");
+}
+
+/* A log may be left with one open remove, whose client never came back, and not with two. */
+static void check_open_removes(void)
+{
+    begin(YR_LOG_MAX);
+    append(CALL_REMOVE, 2, 9, 0);
+    expect_answer(yr_check(buffer, yr_recorder_length(&recorder)), 0, 1, "a remove is open");
+    append(CALL_REMOVE, 3, 9, 0);
+    expect_answer(yr_check(buffer, yr_recorder_length(&recorder)), YR_REFUSAL_PENDING_REMOVE, 1,
+                  "two removes are open");
+    append(RETURN_EMPTY, 2, 9, 0);
+    expect_answer(yr_check(buffer, yr_recorder_length(&recorder)), 0, 2, "one has returned");
 }
 
 /* Whether a session takes the records of the log one by one, and holds the log then. */
@@ -338,6 +350,7 @@ int main(void)
     check_growth();
     check_returns();
     check_unchecked();
+    check_open_removes();
     check_short_buffers();
     check_exact_buffers();
     check_bytes_given_back();

@@ -74,11 +74,11 @@ static void check_refused_logs(void)
     expect_order(YR_REFUSAL_VALUE, 2, "7 is added again, and the sheet is none");
 
     log_begin(&run);
-    log_record(&run, CALL_ADD, 1, 7);
     log_record(&run, CALL_REMOVE, 2, 0);
-    expect_order(YR_REFUSAL_PENDING_REMOVE, 1, "a remove without return, and the sheet is none");
+    log_record(&run, CALL_REMOVE, 3, 0);
+    expect_order(YR_REFUSAL_PENDING_REMOVE, 1, "two removes without return, and no sheet");
     sheet_call_order(&order, 2);
-    expect_order(YR_REFUSAL_PENDING_REMOVE, 1, "a remove without return");
+    expect_order(YR_REFUSAL_PENDING_REMOVE, 1, "two removes without return");
 
     log_begin(&run);
     run.length = 2;
@@ -103,6 +103,48 @@ static void check_pending_add(void)
     sheet_begin(&order);
     sheet_list(&order, 1);
     expect_order(0, NO, "a removed value without its add");
+}
+
+/* Expects this answer for `run` with an order of so many of these operations. */
+static void expect_listed(const unsigned *operations, unsigned listed, uint32_t value,
+                          const char *what)
+{
+    sheet_begin(&order);
+    for (unsigned i = 0; i < listed; i++)
+        sheet_list(&order, operations[i]);
+    expect_order(0, value, what);
+}
+
+/* A remove that never returns stands in an order once or not at all. */
+static void check_pending_remove(void)
+{
+    static const unsigned twice[] = {0, 0};
+    static const unsigned first[] = {0, 1, 2}, between[] = {1, 0, 2}, last[] = {1, 2, 0};
+    static const unsigned too_late[] = {0, 2, 1};
+    log_begin(&run);
+    log_record(&run, CALL_REMOVE, 3, 0);
+    expect_listed(twice, 0, YES, "an open remove is left out");
+    expect_listed(twice, 1, YES, "an open remove is listed, on an empty queue");
+    expect_listed(twice, 2, NO, "an open remove is listed twice");
+
+    log_record(&run, CALL_ADD, 1, 0);
+    log_record(&run, RETURN_ADD, 1, 0);
+    log_record(&run, CALL_REMOVE, 1, 0);
+    log_record(&run, RETURN_EMPTY, 1, 0);
+    expect_listed(first, 3, NO, "it finds no value, and the empty remove meets one");
+    expect_listed(between, 3, YES, "it takes the value before the empty remove comes");
+    expect_listed(last, 3, NO, "it takes the value too late");
+    expect_listed(between, 2, NO, "a returned remove is not listed");
+
+    log_begin(&run);
+    log_record(&run, CALL_ADD, 1, 0);
+    log_record(&run, RETURN_ADD, 1, 0);
+    log_record(&run, CALL_REMOVE, 1, 0);
+    log_record(&run, RETURN_EMPTY, 1, 0);
+    log_record(&run, CALL_REMOVE, 3, 0);
+    expect_listed(too_late, 3, NO, "it is called when the empty remove has returned");
+    log_join(&run, 4);
+    expect_listed(too_late, 3, YES, "it is called at the tick of that return");
 }
 
 /* Two adds one after the other, at ticks apart and at one tick. */
@@ -157,6 +199,10 @@ static void check_largest(void)
     check_large("341 adds without return and their removes, all of which overlap");
     log_values_of_slot(&run, &order);
     check_large("256 adds, then 256 removes, of values that share a slot");
+    log_late_pattern_open(&run, &order, 4, OPEN_BEFORE);
+    check_large("a run of 8 clients, and an open remove that took a value");
+    log_relay_open(&run, &order, 170, 170, LAST_TRUE);
+    check_large("170 empty removes over 170 values, the last of which an open remove took");
 
     log_pending_adds(&run, YR_MAX_RECORDS);
     sheet_begin(&order);
@@ -178,6 +224,7 @@ int main(void)
     check_refused_sheets();
     check_refused_logs();
     check_pending_add();
+    check_pending_remove();
     check_equal_ticks();
     check_largest();
     return counted();

@@ -259,35 +259,36 @@ static void check_refused_records(void)
     expect_refused(call, 9, YR_REFUSAL_BYTES, 3, "a byte behind the record, and there is no room");
 }
 
-/* A call at the tick of its client's last return. The session holds 3 records. */
+/* A call at the tick of its client's last return. The session holds 4 records. */
 static void check_repeated_tick(void)
 {
     log_begin(&run);
     log_record(&run, CALL_REMOVE, 2, 0);
+    log_record(&run, CALL_REMOVE, 5, 0);
     log_record(&run, CALL_ADD, 1, 7);
     log_record(&run, RETURN_ADD, 1, 0);
-    feed_run("an add that has returned, and a remove that has not");
+    feed_run("an add that has returned, and two removes that have not");
     room = YR_LOG_MAX;
 
     for (unsigned client = 1; client <= 3; client++) {
         uint32_t refusals[] = {0, YR_REFUSAL_TICK_REPEATED, YR_REFUSAL_CALL, YR_REFUSAL_VALUE};
         size_t start = run.length;
         log_record(&run, CALL_ADD, client, 7);
-        log_join(&run, 3);
-        expect_refused(run.bytes + start, run.length - start, refusals[client], 3,
+        log_join(&run, 4);
+        expect_refused(run.bytes + start, run.length - start, refusals[client], 4,
                        "7 is added again at the tick of the return");
         run.length = start;
         log_set_n(&run, --run.records);
     }
-    expect(close_to(YR_SHEET_MAX), YR_REFUSAL_PENDING_REMOVE, 0, "what was held before is held");
+    expect(close_to(YR_SHEET_MAX), YR_REFUSAL_PENDING_REMOVE, 1, "what was held before is held");
 
     log_record(&run, CALL_REMOVE, 1, 0);
-    log_join(&run, 3);
-    room = log_start(&run, 3);
-    expect_refused(run.bytes + room, 8, YR_REFUSAL_TICK_REPEATED, 3, "client 1, without room");
+    log_join(&run, 4);
+    room = log_start(&run, 4);
+    expect_refused(run.bytes + room, 8, YR_REFUSAL_TICK_REPEATED, 4, "client 1, without room");
     room = YR_LOG_MAX;
-    run.bytes[log_start(&run, 3) + 3] = 4;
-    count(fed_from_run(3), "client 4 calls at that tick");
+    run.bytes[log_start(&run, 4) + 3] = 4;
+    count(fed_from_run(4), "client 4 calls at that tick");
 }
 
 /* Records for which the buffer has just room, or a byte less. */
@@ -309,29 +310,53 @@ static void check_room(void)
     }
 }
 
-/* A remove without return keeps a session from being closed and not from being fed. */
-static void check_pending_remove(void)
+/* A second remove without return keeps a session from being closed and not from being fed. */
+static void check_pending_removes(void)
 {
     log_begin(&run);
     log_record(&run, CALL_ADD, 1, 7);
     log_record(&run, CALL_REMOVE, 2, 0);
     log_record(&run, CALL_REMOVE, 3, 0);
-    feed_run("two removes without return");
+    log_record(&run, CALL_REMOVE, 4, 0);
+    feed_run("three removes without return");
     expect_answer(yr_judge(run.bytes, run.length, judged, sizeof judged), YR_REFUSAL_PENDING_REMOVE,
-                  1, "the log is refused as the session is");
-    expect(close_to(YR_SHEET_MAX), YR_REFUSAL_PENDING_REMOVE, 1, "two removes do not return");
-    expect(close_to(0), YR_REFUSAL_PENDING_REMOVE, 1, "two removes do not return, no bytes");
+                  2, "the log is refused as the session is");
+    expect(close_to(YR_SHEET_MAX), YR_REFUSAL_PENDING_REMOVE, 2, "three removes do not return");
+    expect(close_to(0), YR_REFUSAL_PENDING_REMOVE, 2, "three removes do not return, no bytes");
     expect(sheet_to(YR_SHEET_MAX), YR_REFUSAL_OPEN, 0, "the session is still open");
 
     log_record(&run, RETURN_VALUE, 2, 7);
     room = run.length;
-    count(fed_from_run(3), "the first remove returns");
-    expect(close_to(YR_SHEET_MAX), YR_REFUSAL_PENDING_REMOVE, 2, "the other does not return");
+    count(fed_from_run(4), "the first remove returns");
+    expect(close_to(YR_SHEET_MAX), YR_REFUSAL_PENDING_REMOVE, 3, "the others do not return");
     log_record(&run, RETURN_EMPTY, 3, 0);
     room = run.length;
-    count(fed_from_run(4), "the other remove returns");
+    count(fed_from_run(5), "another remove returns");
     expect_answer(close_to(YR_SHEET_MAX), 0, SHEET_HEADER + 2 * 3, "now the session is closed");
     count(now.session.stage == YR_CLOSED, "its stage says so");
+}
+
+/* A session is closed over one remove without return, and has no excerpt then. */
+static void check_pending_remove(void)
+{
+    const uint8_t taken[] = {1, 0, 0, 3, 0, 0, 0, 1, 0, 2};
+    log_begin(&run);
+    log_record(&run, CALL_ADD, 1, 7);
+    log_record(&run, RETURN_ADD, 1, 0);
+    log_record(&run, CALL_REMOVE, 2, 0);
+    log_record(&run, CALL_REMOVE, 1, 0);
+    log_record(&run, RETURN_EMPTY, 1, 0);
+    feed_run("a remove without return, which took 7");
+    expect(excerpt_to(0), YR_REFUSAL_OPEN, 0, "the session is open");
+    expect(close_to(sizeof taken - 1), YR_REFUSAL_BUFFER, 0, "closed with a byte less than needed");
+    yr_answer answer = close_to(sizeof taken);
+    expected.session.stage = YR_CLOSED;
+    expect_written(answer, taken, sizeof taken, "closed over a remove without return");
+    expect_written(sheet_to(sizeof taken), taken, sizeof taken, "the sheet, once more");
+    expect(excerpt_to(YR_LOG_MAX), YR_REFUSAL_UNRETURNED, 0, "no excerpt, though there are bytes");
+    expect(excerpt_to(0), YR_REFUSAL_UNRETURNED, 0, "no excerpt, and no bytes");
+    expect(close_to(YR_SHEET_MAX), YR_REFUSAL_CLOSED, 0, "closed a second time");
+    expect_refused(second_run + 3, 12, YR_REFUSAL_CLOSED, 0, "fed when closed");
 }
 
 /* Feeds all records of `run` and closes, which answers and writes what the judge does on the log. So
@@ -415,6 +440,24 @@ static void check_whole_logs(void)
     expect_answer(sheet_to(YR_SHEET_MAX), 0, YR_SHEET_MAX, "YR_SHEET_MAX is just enough");
 }
 
+/* Each pattern with an open remove that is called before it or after it. */
+static void check_whole_logs_open(void)
+{
+    for (unsigned pattern = 1; pattern <= 6; pattern++) {
+        log_late_pattern_open(&run, &order, pattern, OPEN_BEFORE);
+        expect_as_log("an open remove, then a pattern");
+        log_late_pattern_open(&run, &order, pattern, OPEN_AFTER);
+        expect_as_log("a pattern, then an open remove");
+    }
+    log_relay_open(&run, &order, 170, 170, LAST_TRUE);
+    expect_as_log("170 empty removes over 170 values, the last of which an open remove took");
+    log_relay_open(&run, &order, 170, 170, LAST_FALSE);
+    expect_as_log("the same, and the last empty remove is false");
+    log_pending_adds(&run, YR_MAX_RECORDS - 1);
+    log_record(&run, CALL_REMOVE, YR_MAX_RECORDS, 0);
+    expect_as_log("1,023 adds without return and a remove without");
+}
+
 /* 1,024 records are held, and then none is fed any more. */
 static void check_full(void)
 {
@@ -471,7 +514,11 @@ static void check_stage(void)
     log_record(&run, CALL_REMOVE, 1, 0);
     feed_run("a remove without return");
     now.session.stage = YR_CLOSED;
-    expect_unfit("closed, though a remove has no return");
+    expect_answer(sheet_to(YR_SHEET_MAX), 0, SHEET_HEADER + 2 * 2, "closed over such a remove");
+    log_record(&run, CALL_REMOVE, 2, 0);
+    feed_run("two removes without return");
+    now.session.stage = YR_CLOSED;
+    expect_unfit("closed, though two removes have no return");
 }
 
 static void check_used(void)
@@ -531,9 +578,11 @@ int main(void)
     check_refused_records();
     check_repeated_tick();
     check_room();
+    check_pending_removes();
     check_pending_remove();
     check_pattern();
     check_whole_logs();
+    check_whole_logs_open();
     check_full();
     check_stage();
     check_used();

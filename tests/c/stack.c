@@ -234,14 +234,19 @@ static void measure_entry(const struct entry *entry, const struct log *log,
     count(used < entry->limit, entry->promise);
 }
 
-/* How many bytes the log has once its empty removes are left out: narrowed to all values. */
+/* How many bytes the log has once its empty removes are left out, and a remove that does not return:
+   narrowed to all values. */
 static uint32_t length_of_values(const struct log *log)
 {
-    size_t length = log->length;
-    for (size_t at = 3; at < log->length; at += 1u + log->bytes[at])
-        if (log->bytes[at + 1] == RETURN_EMPTY)
+    size_t length = log->length, removes = 0, returned = 0;
+    for (size_t at = 3; at < log->length; at += 1u + log->bytes[at]) {
+        unsigned kind = log->bytes[at + 1];
+        removes += kind == CALL_REMOVE;
+        returned += kind == RETURN_VALUE || kind == RETURN_EMPTY;
+        if (kind == RETURN_EMPTY)
             length -= 2 * (1 + 7);
-    return (uint32_t)length;
+    }
+    return (uint32_t)(length - (removes - returned) * (1 + 7));
 }
 
 /* The bytes of a page for each operation. */
@@ -320,6 +325,44 @@ static void measure_patterns(struct log *log, struct sheet *order)
                     "170 empty removes over 170 values, the last one false");
 }
 
+/* Measures the entries that write on a log with an open remove. The sheet lists so many operations. */
+static void measure_open(const struct log *log, uint32_t listed, const char *name)
+{
+    measure_entry(&judge, log, NULL, 0, SHEET_HEADER + 2 * listed, name);
+    measure_entry(&excerpt, log, NULL, YR_REFUSAL_UNRETURNED, 0, name);
+    measure_entry(&narrow, log, NULL, 0, length_of_values(log), name);
+    measure_session(log, listed, YR_REFUSAL_UNRETURNED, 0, name);
+}
+
+/* The same with a legal order of so many operations, for replay as well. */
+static void measure_taken(const struct log *log, const struct sheet *order, uint32_t operations,
+                          const char *name)
+{
+    measure_entry(&check, log, order, 0, operations, name);
+    measure_entry(&replay, log, order, 0, 1, name);
+    measure_open(log, operations, name);
+}
+
+/* Logs for which the judge has to try what an open remove took: with success, and in vain. */
+static void measure_open_removes(struct log *log, struct sheet *order)
+{
+    log_late_pattern_open(log, order, 4, OPEN_BEFORE);
+    measure_taken(log, order, 512, "8 clients at work, and an open remove of a stuck value");
+    log_late_pattern_open(log, order, 6, OPEN_BEFORE);
+    measure_taken(log, order, 512, "8 clients at work, and an open remove of a covering value");
+    log_relay_open(log, order, 170, 170, LAST_TRUE);
+    measure_taken(log, order, 510, "170 empty removes over 170 values, the last one taken");
+    log_late_pattern_open(log, order, 4, OPEN_AFTER);
+    measure_open(log, 3, "pattern 4, and an open remove that does not help");
+    log_late_pattern_open(log, order, 6, OPEN_AFTER);
+    measure_open(log, 2, "pattern 6, and an open remove that does not help");
+    log_relay_open(log, order, 170, 170, LAST_FALSE);
+    measure_open(log, 171, "170 empty removes over 170 values, and an open remove in vain");
+    log_pending_adds(log, 1023);
+    log_record(log, CALL_REMOVE, 1023, 0);
+    measure_open(log, 0, "1,023 adds that never return and a remove that does not");
+}
+
 /* Adds that do not return and removes of their values, for the longest sheet. */
 static void measure_longest_sheet(struct log *log, struct sheet *order)
 {
@@ -375,9 +418,10 @@ static void measure_refused_logs(struct log *log, struct sheet *sheet)
     log_pending_adds(log, 1023);
     log_record(log, CALL_ADD, 1023, 0);
     measure_refused(log, sheet, YR_REFUSAL_VALUE, 1023, "the last of 1,024 adds repeats a value");
-    log_pending_adds(log, 1023);
+    log_pending_adds(log, 1022);
+    log_record(log, CALL_REMOVE, 1022, 0);
     log_record(log, CALL_REMOVE, 1023, 0);
-    measure_refused(log, sheet, YR_REFUSAL_PENDING_REMOVE, 1023, "a remove that never returns");
+    measure_refused(log, sheet, YR_REFUSAL_PENDING_REMOVE, 1023, "two removes that never return");
 }
 
 /* Measures the entries of sessions where they refuse. */
@@ -391,11 +435,12 @@ static void measure_refused_sessions(struct log *log)
     measure_entry(&session_excerpt, log, NULL, YR_REFUSAL_SESSION, 0, "a value is held twice");
     log_pending_adds(log, 1025);
     measure_entry(&feed, log, NULL, YR_REFUSAL_FULL, 0, "the 1,025th add");
-    log_pending_adds(log, 1023);
+    log_pending_adds(log, 1022);
+    log_record(log, CALL_REMOVE, 1022, 0);
     log_record(log, CALL_REMOVE, 1023, 0);
-    measure_entry(&feed, log, NULL, 0, 1 + 7, "a remove that never returns");
+    measure_entry(&feed, log, NULL, 0, 1 + 7, "two removes that never return");
     measure_entry(&close_session, log, NULL, YR_REFUSAL_PENDING_REMOVE, 1023,
-                  "a remove that never returns");
+                  "two removes that never return");
 }
 
 /* Sheets for 512 operations of a correct queue that are not legal, or not even an order. */
@@ -440,6 +485,7 @@ int main(void)
     measure_longest_sheet(&log, &order);
     measure_pages(&log, &order);
     measure_patterns(&log, &order);
+    measure_open_removes(&log, &order);
     measure_other_sheets(&log, &order);
     measure_refused_logs(&log, &order);
     measure_refused_sessions(&log);

@@ -20,8 +20,8 @@ impl Answer {
     }
 }
 
-/// The numbers of all answers are below this: 31 is the highest of a refusal.
-pub const NUMBERS: usize = 31 + 1;
+/// The numbers of all answers are below this: 32 is the highest of a refusal.
+pub const NUMBERS: usize = 32 + 1;
 
 /// A refusal, in short.
 pub fn refused(number: u32, index: u32) -> Answer {

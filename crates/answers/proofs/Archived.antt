@@ -3,7 +3,7 @@
 use Prim.Native.Nat.{ℕ, _%_, _≤_}
 use native.Mathlib.Omega.{arith}
 use mathlib.Core.Path.{_≡_, refl, sym, ap, _∙_, subst}
-use mathlib.Core.Bool.{false}
+use mathlib.Core.Bool.{true, false}
 use mathlib.Core.Logic.{_↔_}
 use mathlib.Core.List.{List, []}
 use lib.ListN.{length, take}
@@ -14,12 +14,14 @@ use Rattle.buffer.specs.Buffer.{lacksRoom}
 use Rattle.buffer.specs.Output.{writing, refusalUnit, outputAnswer}
 use Rattle.buffer.specs.declared.output.Output.{Output}
 use Rattle.buffer.specs.declared.output.Output.the-variants.{Written, Refused}
-use Rattle.reader.specs.Log.{maxLength, readable, readLog, encodeLog}
+use Rattle.reader.specs.Log.{maxLength, readable, readLog, encodeLog, hasPendingRemove}
 use Rattle.history.specs.Object.{Queue}
-use Rattle.history.specs.Linearization.{Linearization}
+use Rattle.history.specs.History.{add, Returned}
+use Rattle.history.specs.Linearization.{Listed, Linearization}
 use Rattle.history.specs.Operations.{historyOf}
 use Rattle.history.specs.Sheet.{orderVerdict, listedOn}
-use Rattle.violations.specs.Verdict.{FirstViolation, JudgedLinearization}
+use Rattle.violations.specs.Violations.{Is, Removed}
+use Rattle.violations.specs.Verdict.{FirstViolation}
 use Rattle.replay.specs.Replay.{replayed}
 use Rattle.judge.specs.Judge as Judge
 use Rattle.judge.specs.Judge.{sheetBytes, Judges}
@@ -27,7 +29,7 @@ use Rattle.judge.specs.declared.judge.Verdict.{Verdict}
 use Rattle.judge.proofs.Laws.{long-enough, accepted-not-refused}
 use Rattle.projection.specs.Projection.{valuesOf, excerpted}
 use Rattle.projection.specs.Outcome.{excerptAnswer, excerptLeaves}
-use Rattle.projection.proofs.Laws.{projection-short, projection-fits, excerpt-of-pattern}
+use Rattle.projection.proofs.Laws.{projection-short, projection-fits, excerpt-of-pattern, excerpt-written}
 use Rattle.archive.specs.Archive.{verdictByte, Archive}
 use Rattle.archive.specs.Trade.{Traded}
 use Rattle.archive.proofs.Laws as archive
@@ -82,8 +84,12 @@ module _ {log : List ℕ} {records : List Record} (reads : readLog log ≡ reada
   judge-order-exactly = archive.order-exactly reads (sheet-archived reads judged .1)
 
   -- the order is legal, lists an open add exactly if its value was removed, and yr_replay answers 1 to its sheet;
-  pub judge-order-legal : verdictByte sheet ≡ orderVerdict → JudgedLinearization Queue (historyOf records) (listedOn sheet)
+  pub judge-order-legal : verdictByte sheet ≡ orderVerdict → Linearization Queue (historyOf records) (listedOn sheet)
   judge-order-legal e = archive.order-is-legal reads (sheet-archived reads judged .1) e
+
+  pub judge-order-pending : verdictByte sheet ≡ orderVerdict → (a : ℕ) → Is (historyOf records) add a → (Returned (historyOf records) a → ⊥)
+      → Listed (listedOn sheet) a ↔ Removed (historyOf records) a
+  judge-order-pending e = archive.order-lists-pending reads (sheet-archived reads judged .1) e
 
   pub judge-order-replays : verdictByte sheet ≡ orderVerdict → replayAnswer (replayed (readLog log) sheet) ≡ 1
   judge-order-replays e = ap replayAnswer (archive.order-replays reads (sheet-archived reads judged .1) e)
@@ -92,23 +98,32 @@ module _ {log : List ℕ} {records : List Record} (reads : readLog log ≡ reada
   pub judge-pattern-first : (verdictByte sheet ≡ orderVerdict → ⊥) → FirstViolation Queue (historyOf records) (verdictByte sheet) (listedOn sheet)
   judge-pattern-first some = archive.pattern-is-first reads (sheet-archived reads judged .1) some
 
+  -- With an open remove the archive is the sheet alone,
+  pub called-pending-archived : hasPendingRemove records ≡ true → Archive log sheet []
+  called-pending-archived pending = let (excerpt, kept) = sheet-archived reads judged in rw (archive.archive-alone kept records reads pending) at kept
+
+  -- and yr_excerpt writes none.
+  called-returned : {excerpt : List ℕ} → ExcerptWrote log excerpt → hasPendingRemove records ≡ false
+  called-returned called = let (n, e, bytes) = excerpt-wrote called in excerpt-written log records reads (called .buffer) e
+
   -- "the excerpt, judged by itself, gives the same number": what yr_excerpt writes is a readable log, and what yr_judge writes for it has the
   -- same verdict byte.
   module _ (bytes : Bytes log) (some : verdictByte sheet ≡ orderVerdict → ⊥) {excerpt : List ℕ} (called : ExcerptWrote log excerpt) where
     pub called-excerpt-readable : readLog excerpt ≡ readable (excerpted records (listedOn sheet))
-    called-excerpt-readable = archive.excerpt-readable reads (called-pattern-archived some called) bytes some
+    called-excerpt-readable = archive.excerpt-readable reads (called-pattern-archived some called) bytes (called-returned called) some
 
     pub called-excerpt-same : {sheet' : List ℕ} → JudgeWrote excerpt sheet' → verdictByte sheet' ≡ verdictByte sheet
-    called-excerpt-same again = archive.excerpt-same reads (called-pattern-archived some called) bytes some (sheet-archived called-excerpt-readable again .1)
+    called-excerpt-same again =
+        archive.excerpt-same reads (called-pattern-archived some called) bytes (called-returned called) some (sheet-archived called-excerpt-readable again .1)
 
   abbrev kept : List ℕ
   kept = encodeLog (excerpted records (listedOn sheet))
 
-  -- With a pattern yr_excerpt is accepted if its buffer is as long as the log.
-  pub excerpt-accepted : Bytes log → (verdictByte sheet ≡ orderVerdict → ⊥) → (buffer : List ℕ) → length log ≤ length buffer
+  -- With a pattern and no open remove yr_excerpt is accepted if its buffer is as long as the log.
+  pub excerpt-accepted : Bytes log → hasPendingRemove records ≡ false → (verdictByte sheet ≡ orderVerdict → ⊥) → (buffer : List ℕ) → length log ≤ length buffer
       → ExcerptWrote log (take (outputAnswer (excerptAnswer (readLog log) buffer) % refusalUnit) (excerptLeaves (readLog log) buffer))
-  excerpt-accepted bytes some buffer long =
-      let answer : excerptAnswer (readLog log) buffer ≡ writing kept buffer = excerpt-of-pattern log records reads (judge-pattern-first some) buffer .0 in
+  excerpt-accepted bytes returned some buffer long =
+      let answer : excerptAnswer (readLog log) buffer ≡ writing kept buffer = excerpt-of-pattern log records reads returned (judge-pattern-first some) buffer .0 in
       let fits : length kept ≤ length log = projection-fits log records reads bytes (listedOn sheet) (valuesOf (historyOf records) (listedOn sheet)) in
       let short : length kept ≤ maxLength = projection-short log records reads (listedOn sheet) (valuesOf (historyOf records) (listedOn sheet)) in
       let room : lacksRoom kept buffer ≡ false = le-ltb (length buffer) (length kept) (omega arith) in

@@ -16,7 +16,7 @@ use Rattle.buffer.specs.Buffer.{bufferTooShort, lacksRoom, written}
 use Rattle.buffer.specs.Output.{writing, refusalUnit, refusal, outputAnswer}
 use Rattle.buffer.specs.declared.output.Output.{Output}
 use Rattle.buffer.specs.declared.output.Output.the-variants as output
-use Rattle.reader.specs.Log.{maxLength, Reading, readable, refused, readLog, checked, operations, encodeLog}
+use Rattle.reader.specs.Log.{maxLength, Reading, readable, refused, readLog, checked, operations, encodeLog, hasPendingRemove}
 use Rattle.reader.specs.Readable.{Within}
 use Rattle.reader.proofs.Laws.{within, readable-log, few-operations}
 use Rattle.history.specs.Object.{Queue}
@@ -36,7 +36,7 @@ use Rattle.judge.specs.declared.judge.Verdict.{Verdict}
 use Rattle.judge.specs.declared.judge.Verdict.the-variants as judge
 use Rattle.judge.proofs.Laws.{judged-at-most, judged-refusal, judged-too-short, judged-determined}
 use Rattle.projection.specs.Projection.{valuesOf, narrowed, excerpted}
-use Rattle.projection.specs.Outcome.{narrowAnswer, narrowLeaves, excerptAnswerOf, excerptAnswer, excerptLeavesOf, excerptLeaves}
+use Rattle.projection.specs.Outcome.{removeUnreturned, narrowAnswer, narrowLeaves, excerptAnswerOf, excerptAnswer, excerptLeavesOf, excerptLeaves}
 use Rattle.projection.proofs.Laws.{projection-short}
 use Rattle.session.specs.Session.{heldLog, stageRefusal, sessionReading}
 use Rattle.answers.specs.Answer.{checkAnswer, replayAnswer, judgeAnswer, JudgeAnswers, SmallRefusal, SmallCheck, SmallReplay, SmallVerdict, SmallOutput}
@@ -155,8 +155,12 @@ excerpt-small (of-log log) out = go (readLog log) refl (within log)
     of-pattern records reads (inl (number, listed, first)) = writing-small (encodeLog (excerpted records listed)) out (projection-short log records reads listed (valuesOf (historyOf records) listed))
     of-pattern records reads (inr clean) = (omega arith, omega arith)
 
+    unless-pending : (b : Bool) (given : Output) → SmallOutput given → SmallOutput (if b then output.Refused removeUnreturned 0 else given)
+    unless-pending true given small = (omega arith, omega arith)
+    unless-pending false given small = small
+
     go : (reading : Reading) → readLog log ≡ reading → Within reading → SmallOutput (excerptAnswer reading out)
-    go (readable records) reads few = of-pattern records reads (first-violation Queue (historyOf records))
+    go (readable records) reads few = unless-pending (hasPendingRemove records) _ (of-pattern records reads (first-violation Queue (historyOf records)))
     go (refused number index) reads few = (few .0, few .2)
 
 -- of what writes a page
@@ -228,12 +232,20 @@ narrow-untouched (readable records) values out e = writing-untouched (encodeLog 
 excerpt-untouched : (reading : Reading) (out : List ℕ) {number index : ℕ} → excerptAnswer reading out ≡ output.Refused number index
     → excerptLeaves reading out ≡ out
 excerpt-untouched (refused n i) out e = refl
-excerpt-untouched (readable records) out {number} {index} e = go (first-violation Queue (historyOf records)) e
+excerpt-untouched (readable records) out {number} {index} e = by (hasPendingRemove records) e
   where
     go : (found : SomeViolation Queue (historyOf records) ⊎ NoViolation Queue (historyOf records))
         → excerptAnswerOf records found out ≡ output.Refused number index → excerptLeavesOf records found out ≡ out
     go (inl (n, listed, first)) e = writing-untouched (encodeLog (excerpted records listed)) out e
     go (inr clean) e = refl
+
+    found : SomeViolation Queue (historyOf records) ⊎ NoViolation Queue (historyOf records)
+    found = first-violation Queue (historyOf records)
+
+    by : (b : Bool) → (if b then output.Refused removeUnreturned 0 else excerptAnswerOf records found out) ≡ output.Refused number index
+        → (if b then out else excerptLeavesOf records found out) ≡ out
+    by true e = refl
+    by false e = go found e
 
 -- and of the page
 page-untouched : (reading : Reading) (out : List ℕ) {number index : ℕ} → pageAnswer reading out ≡ output.Refused number index → pageLeaves reading out ≡ out

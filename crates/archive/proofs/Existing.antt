@@ -2,6 +2,7 @@
 use Prim.Native.Nat.{ℕ}
 use native.Mathlib.Omega.{arith}
 use mathlib.Core.Path.{_≡_, refl}
+use mathlib.Core.Bool.{Bool, true, false}
 use mathlib.Core.Logic.{_⊎_, inl, inr}
 use mathlib.Core.List.{List}
 use lib.ListN.{length}
@@ -9,27 +10,27 @@ use borrow.Author.Tests.{le-ltb, ne-eqb}
 use Rattle.record.specs.declared.record.Record.{Record}
 use Rattle.buffer.specs.Buffer.{written}
 use Rattle.buffer.specs.declared.output.Output.the-variants.{Written}
-use Rattle.reader.specs.Log.{readable, readLog, encodeLog}
+use Rattle.reader.specs.Log.{readable, readLog, encodeLog, hasPendingRemove}
 use Rattle.reader.proofs.Laws.{readable-log}
 use Rattle.history.specs.Object.{Queue}
 use Rattle.history.specs.Operations.{historyOf}
 use Rattle.history.specs.Sheet.{orderVerdict, sheetOf}
-use Rattle.history.proofs.Laws.{history-lawful, history-returned}
+use Rattle.history.proofs.Laws.{history-lawful, history-lone}
 use Rattle.violations.specs.Violations.{NoViolation}
 use Rattle.violations.specs.Verdict.{SomeViolation}
 use Rattle.violations.specs.Verdict as violations
-use Rattle.violations.specs.Found.{Found}
+use Rattle.violations.specs.Found.{FoundSettled}
 use Rattle.violations.proofs.Laws.{first-violation, first-violation-one, occurs-numbered, found-verdict}
 use Rattle.judge.specs.Judge.{verdictOf, Delivers, Judges, judged}
 use Rattle.judge.specs.declared.judge.Verdict.the-variants.{Pattern}
 use Rattle.projection.specs.Projection.{excerpted}
 use Rattle.projection.specs.Outcome.{excerptAnswerOf, excerptAnswer}
-use Rattle.archive.specs.Archive.{Archive, with-order, with-pattern}
+use Rattle.archive.specs.Archive.{Archive, with-order, with-pattern, sheet-alone}
 
 module _ (log : List ℕ) (records : List Record) (reads : readLog log ≡ readable records) where
   -- a verdict is judged into a sheet that is as long as its own
   judges-own : {byte : ℕ} {listed : List ℕ} → violations.Verdict Queue (historyOf records) byte listed
-      → (byte ≡ orderVerdict → Found (historyOf records) listed)
+      → (byte ≡ orderVerdict → FoundSettled (historyOf records) listed)
       → (left : List ℕ) × Judges (readLog log) (sheetOf byte listed) (verdictOf byte (length listed)) left
   judges-own {byte} {listed} v chosen =
       let fits = le-ltb (length (sheetOf byte listed)) (length (sheetOf byte listed)) (omega arith) in
@@ -51,15 +52,21 @@ module _ (log : List ℕ) (records : List Record) (reads : readLog log ≡ reada
   pub archive-exists : (sheet : List ℕ) × (excerpt : List ℕ) × Archive log sheet excerpt
   archive-exists =
       let read = readable-log log records reads in
-      let (byte, listed, v, chosen) = found-verdict (history-lawful read) (history-returned read) in
+      let (byte, listed, v, chosen) = found-verdict (history-lawful read) (history-lone read) in
       go v chosen
     where
-      go : {byte : ℕ} {listed : List ℕ} → violations.Verdict Queue (historyOf records) byte listed → (byte ≡ orderVerdict → Found (historyOf records) listed)
+      go : {byte : ℕ} {listed : List ℕ} → violations.Verdict Queue (historyOf records) byte listed → (byte ≡ orderVerdict → FoundSettled (historyOf records) listed)
           → (sheet : List ℕ) × (excerpt : List ℕ) × Archive log sheet excerpt
       go (violations.Verdict.linearization s x) chosen = let (left, j) = judges-own (violations.Verdict.linearization s x) chosen in (_, _, with-order j)
       go {byte} {listed} (violations.Verdict.violation x none) chosen =
           let (left, j) = judges-own (violations.Verdict.violation x none) chosen in
           let named : verdictOf byte (length listed) ≡ Pattern byte (length listed) = rw (ne-eqb byte orderVerdict (λ e. omega (arith, occurs-numbered (x .occurs)))) refl in
-          let bytes = encodeLog (excerpted records listed) in
-          let wrote : excerptAnswer (readLog log) bytes ≡ Written (length bytes) = rw reads (excerpt-own x (first-violation Queue (historyOf records))) in
-          (_, _, with-pattern (rw named at j) bytes wrote)
+          by (rw named at j) (hasPendingRemove records) refl
+        where
+          by : {left : List ℕ} → Judges (readLog log) (sheetOf byte listed) (Pattern byte (length listed)) left → (b : Bool) → hasPendingRemove records ≡ b
+              → (sheet : List ℕ) × (excerpt : List ℕ) × Archive log sheet excerpt
+          by j true pending = (_, _, sheet-alone j reads pending)
+          by j false returned =
+              let bytes = encodeLog (excerpted records listed) in
+              let wrote : excerptAnswer (readLog log) bytes ≡ Written (length bytes) = rw (reads, returned) (excerpt-own x (first-violation Queue (historyOf records))) in
+              (_, _, with-pattern j bytes wrote)

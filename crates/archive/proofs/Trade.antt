@@ -10,7 +10,7 @@ use Rattle.record.specs.Record.{valueIn}
 use Rattle.record.specs.declared.record.Event.the-variants.{CallAdd}
 use Rattle.record.specs.declared.record.Record.{Record}
 use Rattle.reader.specs.Log.{isCall, leaves}
-use Rattle.reader.specs.Readable.{recordOf, asks, Next, Orderly}
+use Rattle.reader.specs.Readable.{recordOf, asks, Next, Unreturned, Orderly}
 use Rattle.reader.proofs.Events.{turns-change}
 use Rattle.archive.specs.Trade.{withTick, traded, MayTrade, one-tick, two-calls, two-returns, Tradable}
 use Rattle.archive.proofs.Exchange.{exchange, exchange-low, exchange-high, exchange-back, exchange-keeps, exchange-below}
@@ -68,6 +68,14 @@ next-trades {records} {records'} {i} {a} {b} t next = record {
       (trades-back t .client k ∙ e ∙ t .client a);
 }
 
+-- and a remove without return has none still
+pub unreturned-trades : {records records' : List Record} {i a : ℕ} → Trades records records' i → Unreturned records a → Unreturned records' (exchange i a)
+unreturned-trades {records} {records'} {i} {a} t u = record {
+  there = index-there t a (u .there);
+  removes = t .event a ∙ u .removes;
+  last = λ j next. u .last (exchange i j) (rw (exchange-back i a) at (next-trades (trades-back t) next));
+}
+
 -- orderly records stay orderly
 pub trades-orderly : {records records' : List Record} {i : ℕ} → Trades records records' i → Orderly records → Orderly records'
 trades-orderly {records} {records'} {i} t orderly = record {
@@ -85,7 +93,8 @@ trades-orderly {records} {records'} {i} t orderly = record {
     tick = omega (arith, t .tick j, orderly .small j (omega (arith, t .long)) .tick);
     value = omega (arith, ap valueIn (back .event j), orderly .small (exchange i j) (index-there back j h) .value);
   };
-  returned = λ a h e. let (j, next) = orderly .returned (exchange i a) (index-there back a h) (back .event a ∙ e) in (exchange i j, rw (exchange-back i a) at (next-trades t next));
+  lone = λ a b u v. let same = orderly .lone (exchange i a) (exchange i b) (unreturned-trades back u) (unreturned-trades back v) in
+      omega (arith, exchange-back i a, exchange-back i b, ap (exchange i) same);
 }
   where
     back : Trades records' records i

@@ -13,9 +13,9 @@ use Rattle.reader.specs.Readable.{Orderly}
 use Rattle.reader.proofs.Laws.{readable-log, readable-orderly, orderly-readable}
 use Rattle.history.specs.Object.{Queue}
 use Rattle.history.specs.Operations.{historyOf}
-use Rattle.history.proofs.Laws.{history-lawful, history-returned}
+use Rattle.history.proofs.Laws.{history-lawful, history-lone}
 use Rattle.violations.specs.Verdict.{Verdict}
-use Rattle.violations.proofs.Laws.{alike-verdict, returned-lone}
+use Rattle.violations.proofs.Laws.{alike-verdict}
 use Rattle.archive.specs.Trade.{withTick, traded, Traded}
 use Rattle.archive.proofs.Trade.{traded-orderly, traded-length}
 use Rattle.archive.proofs.Alike.{traded-alike}
@@ -34,7 +34,7 @@ module _ {log log' : List ℕ} (bytes : Bytes log) (t : Traded log log') where
   traded-verdict =
       let read = readable-log log (t .records) (t .reads) in
       let read' = readable-log log' (traded (t .place) (t .records)) traded-readable in
-      alike-verdict Queue (history-lawful read) (history-lawful read') (returned-lone (history-returned read)) (returned-lone (history-returned read'))
+      alike-verdict Queue (history-lawful read) (history-lawful read') (history-lone read) (history-lone read')
       (traded-alike was-orderly (t .tradable))
 
 -- "the two records change places whole but for their ticks, no other byte changes": what stands before and behind the two records is the same.

@@ -12,7 +12,7 @@ use Rattle.record.specs.declared.record.Record.{Record}
 use Rattle.map.proofs.Laws.{newKeys, newChains}
 use Rattle.reader.specs.Log.{isCall, leaves, operations}
 use Rattle.reader.specs.Readable.{recordOf, asks, Regular}
-use Rattle.history.specs.Positions.{positionOf, returnPosition}
+use Rattle.history.specs.Positions.{positionOf, endOf, returnPosition}
 use Rattle.history.specs.Operations.{callIndex, returnIndex, kindBy, valueBy, operationAt}
 use Rattle.history.specs.Owners.{Traced}
 use Rattle.history.specs.Table.{tableLength, Entered, Told, Filled, HistoryHeld}
@@ -61,7 +61,7 @@ module _ {records : List Record} (regular : Regular records) {n : ℕ} (h : n < 
     before p l r (yes b) = b
     before p l r (no b) = absurd (not-now p l (omega arith))
 
-    pub filled-call : {table' : List ℕ} → Entered table o (kindBy (recordOf records n .event) CallRemove) (valueBy (recordOf records n .event) CallRemove) (positionOf records n) (length records) table' → Filled records old (n + 1) count' callers' chains' table'
+    pub filled-call : {table' : List ℕ} → Entered table o (kindBy (recordOf records n .event) CallRemove) (valueBy (recordOf records n .event) CallRemove) (positionOf records n) (endOf records) table' → Filled records old (n + 1) count' callers' chains' table'
     filled-call {table'} entered = record {
       traced = traced;
       table-sized = entered .sized ∙ filled .table-sized;
@@ -75,7 +75,7 @@ module _ {records : List Record} (regular : Regular records) {n : ℕ} (h : n < 
         back p l r (yes e) = absurd (omega (arith, ap (callIndex records) e, own))
         back p l r (no d) = let below : p < count = omega (arith, more, new) in entry-stays entered d (filled .returned p below (before p below r (decLt (returnIndex records (callIndex records p)) n)))
 
-        wait : (p : ℕ) → p < count' → n + 1 ≤ returnIndex records (callIndex records p) → Dec (p ≡ o) → Told records table' p CallRemove (length records)
+        wait : (p : ℕ) → p < count' → n + 1 ≤ returnIndex records (callIndex records p) → Dec (p ≡ o) → Told records table' p CallRemove (endOf records)
         wait p l r (yes e) = rw (e, own) (entered .entry)
         wait p l r (no d) = entry-stays entered d (filled .pending p (omega (arith, more, new)) (omega arith))
 
@@ -108,7 +108,7 @@ module _ {records : List Record} (regular : Regular records) {n : ℕ} (h : n < 
         back p l r (no d) (yes b) = entry-stays entered d (filled .returned p l b)
         back p l r (no d) (no b) = absurd (d (alone p l (omega arith)))
 
-        wait : (p : ℕ) → p < count → n + 1 ≤ returnIndex records (callIndex records p) → Dec (p ≡ o) → Told records table' p CallRemove (length records)
+        wait : (p : ℕ) → p < count → n + 1 ≤ returnIndex records (callIndex records p) → Dec (p ≡ o) → Told records table' p CallRemove (endOf records)
         wait p l r (yes e) = absurd (omega (arith, return-ends .returns, ap (λ q. returnIndex records (callIndex records q)) e))
         wait p l r (no d) = entry-stays entered d (filled .pending p l (omega arith))
 

@@ -12,7 +12,7 @@ use Rattle.record.specs.declared.record.Record.{Record}
 use Rattle.reader.specs.Log.{isCall, leaves}
 use Rattle.reader.specs.Readable.{recordOf, asks, Regular}
 use Rattle.history.specs.History.{add}
-use Rattle.history.specs.Positions.{positionOf}
+use Rattle.history.specs.Positions.{positionOf, endOf}
 use Rattle.history.specs.Operations.{callIndex, removeKind, kindBy, valueBy}
 use Rattle.history.specs.Owners.{Owned}
 use Rattle.history.specs.declared.owners.Owner.{Owner}
@@ -26,10 +26,9 @@ pub noted-call : {r : Record} {at count end : ℕ} {callers chains table callers
     → Noted r at count end callers chains table (owner .count) callers' chains' table'
 noted-call {r} {at} {count} {end} {callers} {chains} {table} {callers'} {chains'} {table'} {owner} {e} owned is c entered = record { kept = kept }
   where
-    kept : (records : List Record) (old : List ℕ) (n : ℕ) → Regular records → length records ≡ end → n < end → recordOf records n ≡ r → positionOf records n ≡ at
+    kept : (records : List Record) (old : List ℕ) (n : ℕ) → Regular records → endOf records ≡ end → n < length records → recordOf records n ≡ r → positionOf records n ≡ at
         → Filled records old n count callers chains table → Filled records old (n + 1) (owner .count) callers' chains' table'
-    kept records old n regular whole below here placed filled =
-        let h : n < length records = omega arith in
+    kept records old n regular whole h here placed filled =
         let event : recordOf records n .event ≡ e = ap (λ q. q .event) here ∙ is in
         filled-call regular h filled (owned .traced records n regular h here (filled .traced)) (owned .is records n regular h here (filled .traced))
         (ap isCall event ∙ c) (rw (event, placed, whole) entered)
@@ -58,10 +57,9 @@ pub noted-return : {r : Record} {at count end : ℕ} {callers chains table calle
     → Noted r at count end callers chains table (owner .count) callers' chains' table'
 noted-return {r} {at} {count} {end} {callers} {chains} {table} {callers'} {chains'} {table'} {owner} {e} owned is c fits called entered = record { kept = kept }
   where
-    kept : (records : List Record) (old : List ℕ) (n : ℕ) → Regular records → length records ≡ end → n < end → recordOf records n ≡ r → positionOf records n ≡ at
+    kept : (records : List Record) (old : List ℕ) (n : ℕ) → Regular records → endOf records ≡ end → n < length records → recordOf records n ≡ r → positionOf records n ≡ at
         → Filled records old n count callers chains table → Filled records old (n + 1) (owner .count) callers' chains' table'
-    kept records old n regular whole below here placed filled =
-        let h : n < length records = omega arith in
+    kept records old n regular whole h here placed filled =
         let event : recordOf records n .event ≡ e = ap (λ q. q .event) here ∙ is in
         let traced = owned .traced records n regular h here (filled .traced) in
         let own = owned .is records n regular h here (filled .traced) in

@@ -10,7 +10,7 @@ use borrow.Author.Tests.{lt-ltb, le-ltb}
 use Rattle.record.specs.declared.record.Record.{Record}
 use Rattle.reader.specs.Log.{isCall}
 use Rattle.reader.specs.Readable.{recordOf, Next, Regular}
-use Rattle.history.specs.Positions.{timeOf, positionOf, returnPosition}
+use Rattle.history.specs.Positions.{timeOf, positionOf, endOf, returnPosition}
 use Rattle.reader.proofs.Events.{isCall-small}
 use Rattle.history.proofs.Tallies.{rank-order, rank-within}
 
@@ -20,17 +20,17 @@ module _ (records : List Record) where
   unfolding positionOf
   position-order i j h = rank-order (timeOf records) (length records) i j h
 
-  -- they are below the end
+  -- they are below the number of records, so that there is one more below the end
   pub position-within : (i : ℕ) → i < length records → positionOf records i < length records
   unfolding positionOf
   position-within i h = rank-within (timeOf records) (length records) i h
 
   -- a return stands below the end exactly if there is one
-  pub position-returned : (i : ℕ) → (returnPosition records i < length records) ↔ (i < length records)
+  pub position-returned : (i : ℕ) → (returnPosition records i < endOf records) ↔ (i < length records)
   position-returned i = go (decLt i (length records))
     where
-      go : Dec (i < length records) → (returnPosition records i < length records) ↔ (i < length records)
-      go (yes l) = rw (lt-ltb i (length records) l) (λ b. l, position-within i)
+      go : Dec (i < length records) → (returnPosition records i < endOf records) ↔ (i < length records)
+      go (yes l) = rw (lt-ltb i (length records) l) (λ b. l, λ m. omega (arith, position-within i m))
       go (no l) = rw (le-ltb i (length records) (omega arith)) (omega arith)
 
 module _ {records : List Record} (regular : Regular records) where

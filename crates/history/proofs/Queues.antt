@@ -44,17 +44,23 @@ moves-one (takes-front e) (takes-front f) = refl
 moves-one (finds-none e) (makes a) = absurd (omega (arith, makes-kind a))
 moves-one (finds-none e) (finds-none f) = refl
 
+pub moves-kind : {h : History} {o : ℕ} {queue rest : List ℕ} → Moves h o queue rest → h .kind o ≤ emptyRemove
+moves-kind (makes made) = makes-kind made .1
+moves-kind (takes-front e) = omega arith
+moves-kind (finds-none e) = omega arith
+
+-- what has a kind does just what it makes
+pub moves-kinded : {h : History} {o : ℕ} {queue rest : List ℕ} → Moves h o queue rest → add ≤ h .kind o → Makes h o queue rest
+moves-kinded (makes made) k = made
+moves-kinded (takes-front e) k = absurd (omega arith)
+moves-kinded (finds-none e) k = absurd (omega arith)
+
 -- what can be run without a pending remove can be run, and the other way round
 pub fifo-runs : {h : History} {order : List ℕ} → Fifo h order [] → Runnable Queue h order
 fifo-runs run = run-over (λ i l queue queue'. makes) run
 
 runs-fifo : {h : History} {order : List ℕ} → Kinded h order → Runnable Queue h order → Fifo h order []
-runs-fifo {h} {order} kinded run = run-over (λ i l queue queue' moved. only moved (kinded i l)) run
-  where
-    only : {o : ℕ} {queue queue' : List ℕ} → Moves h o queue queue' → add ≤ h .kind o → Makes h o queue queue'
-    only (makes made) k = made
-    only (takes-front e) k = absurd (omega arith)
-    only (finds-none e) k = absurd (omega arith)
+runs-fifo kinded run = run-over (λ i l queue queue' moved. moves-kinded moved (kinded i l)) run
 
 -- An order is complete exactly if it is legal and everything that it lists has a kind.
 pub complete-linearization : {h : History} {order : List ℕ} → CompleteLinearization h order → Linearization Queue h order

@@ -1,7 +1,7 @@
 -- The loop that fills the table, and what an answer of the reader says of the log.
 use Prim.Native.Nat.{ℕ, _+_, _≤_, _<_}
 use native.Mathlib.Omega.{arith}
-use mathlib.Core.Path.{_≡_, refl, sym, _∙_}
+use mathlib.Core.Path.{_≡_, refl, sym, ap, _∙_}
 use mathlib.Core.List.{List}
 use lib.ListN.{length}
 use Rattle.record.specs.Record.{decodeAt}
@@ -9,7 +9,7 @@ use Rattle.record.specs.declared.record.Record.{Record}
 use Rattle.record.specs.declared.record.Decoded.{Decoded}
 use Rattle.record.specs.declared.record.Decoded.the-variants.{Found, Malformed}
 use Rattle.map.proofs.Laws.{newKeys, newChains}
-use Rattle.reader.specs.Log.{headerLength, readLog, checked}
+use Rattle.reader.specs.Log.{headerLength, maxRecords, readLog, checked}
 use Rattle.reader.specs.declared.log.Checked.{Checked}
 use Rattle.reader.specs.declared.log.Checked.the-variants.{Readable, Refused}
 use Rattle.reader.proofs.Laws.{checked-readable, checked-refused}
@@ -24,22 +24,22 @@ use Rattle.history.proofs.Filling.{filled-none, filled-all}
 use Rattle.history.proofs.Tracing.{traced-room}
 
 -- The loop of `fill` has come to record i.
-pub record Reached (log : List ℕ) (end : ℕ) (old callers chains table : List ℕ) (at count : ℕ) (batch : Batch) (i : ℕ) : Type 0 where
+pub record Reached (log : List ℕ) (size : ℕ) (old callers chains table : List ℕ) (at count : ℕ) (batch : Batch) (i : ℕ) : Type 0 where
   -- of a readable log, which stands at this offset
-  pub whole : Whole log end
+  pub whole : Whole log size
   pub along : Along log (whole .records) at i
   -- the tables hold the records before it
   pub filled : Filled (whole .records) old i count callers chains table
   -- and it is in this batch, or begins another
   pub batched : Batched (whole .records) i batch
 
-pub reached-start : {log : List ℕ} {end : ℕ} → Whole log end → (table : List ℕ) → length table ≡ tableLength
-    → Reached log end table newKeys newChains table headerLength 0 (record { stop = 0; returns = 0; calls = 0 }) 0
+pub reached-start : {log : List ℕ} {size : ℕ} → Whole log size → (table : List ℕ) → length table ≡ tableLength
+    → Reached log size table newKeys newChains table headerLength 0 (record { stop = 0; returns = 0; calls = 0 }) 0
 reached-start whole table t =
     record { whole = whole; along = along-start whole; filled = filled-none (whole .records) table t; batched = batched-none (whole .records) }
 
-module _ {log : List ℕ} {end : ℕ} {old callers chains table : List ℕ} {at count : ℕ} {before : Batch} {i : ℕ} (reached : Reached log end old callers chains table at count before i)
-    (l : i < end) where
+module _ {log : List ℕ} {size : ℕ} {old callers chains table : List ℕ} {at count : ℕ} {before : Batch} {i : ℕ} (reached : Reached log size old callers chains table at count before i)
+    (l : i < size) where
   abbrev records : List Record
   records = reached .whole .records
 
@@ -54,16 +54,19 @@ module _ {log : List ℕ} {end : ℕ} {old callers chains table : List ℕ} {at 
   reached-found = along-found (reached .along) below
 
   -- and room for what it says
-  pub reached-room : Room count end callers chains table
+  pub reached-small : size ≤ maxRecords
+  reached-small = omega (arith, regular .few, reached .whole .counted)
+
+  pub reached-room : Room count (size + 1) callers chains table
   reached-room = record {
-    end-small = omega (arith, regular .few, reached .whole .counted);
+    end-small = omega (arith, reached-small);
     callers-room = traced-room below (regular .few) (reached .filled .traced);
     table-sized = reached .filled .table-sized;
   }
 
   module _ {r : Record} {next : ℕ} {d : Decoded} (e : d ≡ decodeAt log at) (f : d ≡ Found r next) where
     -- its position can be found
-    pub reached-beside : Beside log r next i end count before
+    pub reached-beside : Beside log r next i size count before
     reached-beside = record {
       whole = reached .whole;
       within = l;
@@ -73,16 +76,16 @@ module _ {log : List ℕ} {end : ℕ} {old callers chains table : List ℕ} {at 
       batched = reached .batched;
     }
 
-    pub reached-next : {p : Place} → PlaceFound log i p → {count' : ℕ} {callers' chains' table' : List ℕ} → Noted r (p .position) count end callers chains table count' callers' chains' table'
-        → Reached log end old callers' chains' table' next count' (p .batch) (i + 1)
+    pub reached-next : {p : Place} → PlaceFound log i p → {count' : ℕ} {callers' chains' table' : List ℕ} → Noted r (p .position) count (size + 1) callers chains table count' callers' chains' table'
+        → Reached log size old callers' chains' table' next count' (p .batch) (i + 1)
     reached-next found noted = record {
       whole = reached .whole;
       along = along-next (reached .along) below e f;
-      filled = noted .kept records old i regular (reached .whole .counted) l (along-here (reached .along) below e f) (found .at records (reached .whole .reads)) (reached .filled);
+      filled = noted .kept records old i regular (ap (λ n. n + 1) (reached .whole .counted)) below (along-here (reached .along) below e f) (found .at records (reached .whole .reads)) (reached .filled);
       batched = found .batched records (reached .whole .reads);
     }
 
-pub reached-end : {log : List ℕ} {end : ℕ} {old callers chains table : List ℕ} {at count : ℕ} {batch : Batch} {i : ℕ} → Reached log end old callers chains table at count batch i → end ≤ i → Tabulated (readLog log) old table
+pub reached-end : {log : List ℕ} {size : ℕ} {old callers chains table : List ℕ} {at count : ℕ} {batch : Batch} {i : ℕ} → Reached log size old callers chains table at count batch i → size ≤ i → Tabulated (readLog log) old table
 reached-end {log} {i = i} reached l =
     let last : i ≡ length (reached .whole .records) = omega (arith, reached .along .within, reached .whole .counted) in
     rw (reached .whole .reads) (filled-all (rw last at (reached .filled)))

@@ -78,13 +78,13 @@ pub no-linearizations-hold : Each (Holds (NoneLegal Queue)) noLinearizations
 unfolding decide each? none-legal? history reading
 no-linearizations-hold = rows-hold (none-legal? Queue) noLinearizations refl refl
 
-pub open-linearizations-correct : Each (Correct (AllLegal Queue)) openLinearizations
-unfolding decide each? all-legal? history
-open-linearizations-correct = rows-correct (all-legal? Queue) openLinearizations refl
+pub open-linearizations-hold : Each (Holds (AllLegal Queue)) openLinearizations
+unfolding decide each? all-legal? history reading
+open-linearizations-hold = rows-hold (all-legal? Queue) openLinearizations refl refl
 
-pub no-open-linearizations-correct : Each (Correct (NoneLegal Queue)) noOpenLinearizations
-unfolding decide each? none-legal? history
-no-open-linearizations-correct = rows-correct (none-legal? Queue) noOpenLinearizations refl
+pub no-open-linearizations-hold : Each (Holds (NoneLegal Queue)) noOpenLinearizations
+unfolding decide each? none-legal? history reading
+no-open-linearizations-hold = rows-hold (none-legal? Queue) noOpenLinearizations refl refl
 
 pub cell-linearizations-correct : Each (Correct (AllLegal Cell)) cellLinearizations
 unfolding decide each? all-legal? history

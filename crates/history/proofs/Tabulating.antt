@@ -1,7 +1,7 @@
 -- What is known of a log whose operations were tabulated: its records, and that the table agrees with their history.
-use Prim.Native.Nat.{ℕ, _≤_}
+use Prim.Native.Nat.{ℕ, _+_, _≤_}
 use native.Mathlib.Omega.{arith}
-use mathlib.Core.Path.{_≡_, sym, _∙_}
+use mathlib.Core.Path.{_≡_, sym, ap, _∙_}
 use mathlib.Core.List.{List}
 use lib.ListN.{length}
 use Rattle.record.specs.declared.record.Record.{Record}
@@ -12,23 +12,24 @@ use Rattle.reader.specs.declared.log.Checked.the-variants.{Readable}
 use Rattle.reader.proofs.Laws.{within, checked-readable, few-operations}
 use Rattle.history.specs.History.{History}
 use Rattle.history.specs.Operations.{historyOf}
-use Rattle.history.specs.Table.{tabled, Agree, Tabulated, TableOf}
+use Rattle.history.specs.Table.{tableLength, tabled, Agree, Tabulated, TableOf}
 
-pub record Tabled (log : List ℕ) (count end : ℕ) (table : List ℕ) : Type 0 where
+pub record Tabled (log : List ℕ) (count size : ℕ) (table : List ℕ) : Type 0 where
   pub records : List Record
   pub reads : readLog log ≡ readable records
   pub counted : operations records ≡ count
-  pub ended : length records ≡ end
+  pub ended : length records ≡ size
   pub few : count ≤ maxRecords
-  pub short : end ≤ maxRecords
-  pub agree : Agree (tabled count end table) (historyOf records)
+  pub short : size ≤ maxRecords
+  pub sized : length table ≡ tableLength
+  pub agree : Agree (tabled count (size + 1) table) (historyOf records)
 
 tabled-same : (table : List ℕ) (h : History) {count m end n : ℕ} → count ≡ m → end ≡ n → Agree (tabled count end table) h → Agree (tabled m n table) h
 tabled-same table h o l agree = rw (← o, ← l) agree
 
 -- a log that is checked and found readable is tabulated
-pub log-tabled : (log : List ℕ) {answer : Checked} {end count : ℕ} → answer ≡ checked (readLog log) → answer ≡ Readable end count → (before table : List ℕ) → Tabulated (readLog log) before table → Tabled log count end table
-log-tabled log {end = end} {count = count} e f before table tabulated =
+pub log-tabled : (log : List ℕ) {answer : Checked} {size count : ℕ} → answer ≡ checked (readLog log) → answer ≡ Readable size count → (before table : List ℕ) → Tabulated (readLog log) before table → Tabled log count size table
+log-tabled log e f before table tabulated =
     let (records, reads, ended, counted) = checked-readable (readLog log) (sym e ∙ f) in
     let small : Within (readable records) = rw reads at (within log) in
     let held : Tabulated (readable records) before table = rw reads at tabulated in
@@ -39,7 +40,8 @@ log-tabled log {end = end} {count = count} e f before table tabulated =
       ended = ended;
       few = omega (arith, few-operations records);
       short = omega arith;
-      agree = tabled-same table (historyOf records) counted ended (held .agree);
+      sized = held .sized;
+      agree = tabled-same table (historyOf records) counted (ap (λ n. n + 1) ended) (held .agree);
     }
 
 -- the same as contracts say it

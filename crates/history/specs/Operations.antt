@@ -12,7 +12,7 @@ use Rattle.record.specs.declared.record.Event.the-variants.{CallAdd, CallRemove
 use Rattle.record.specs.declared.record.Record.{Record}
 use Rattle.reader.specs.Log.{isCall, operations}
 use Rattle.reader.specs.Readable.{recordOf}
-use Rattle.history.specs.Positions.{positionOf, returnPosition}
+use Rattle.history.specs.Positions.{positionOf, endOf, returnPosition}
 use Rattle.history.specs.History.{History, add, remove, emptyRemove, noKind}
 
 -- the index of the call record of operation o
@@ -58,7 +58,7 @@ historyOf records = record {
   value = λ o. valueBy (recordOf records (callIndex records o) .event) (recordOf records (returnIndex records (callIndex records o)) .event);
   call = λ o. positionOf records (callIndex records o);
   ret = λ o. returnPosition records (returnIndex records (callIndex records o));
-  end = length records;
+  end = endOf records;
 }
 
 -- Document 02, change 3: "an operation precedes another exactly if its return's tick is lower than the other's call's tick". So it is said of the

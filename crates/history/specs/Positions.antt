@@ -24,6 +24,15 @@ timeOf records i = (recordOf records i .tick * 2 + (1 - isCall (recordOf records
 unfoldable pub positionOf : List Record → ℕ → ℕ
 positionOf records i = tally (λ j. ltb (timeOf records j) (timeOf records i)) (length records)
 
--- the position of a return, or a number above every position if there is none
+-- the end: a number above every position. The position below it is spare, since no record stands there: a remove that has not returned could come
+-- back there, behind all that is logged.
+abbrev pub endOf : List Record → ℕ
+endOf records = length records + 1
+
+-- the positions that a log may have: one for each record, and the spare one
+abbrev pub maxPositions : ℕ
+maxPositions = maxRecords + 1
+
+-- the position of a return, or the end if there is none
 abbrev pub returnPosition : List Record → ℕ → ℕ
-returnPosition records i = if ltb i (length records) then positionOf records i else length records
+returnPosition records i = if ltb i (length records) then positionOf records i else endOf records

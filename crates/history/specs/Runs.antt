@@ -35,8 +35,7 @@ pub record Row (A : Type 0) : Type 0 where
   pub run : Run
   pub says : A
 
--- What the row says is right for the history of its run's records. (No log is read yet as one of a cell, or with a remove that does
--- not return.)
+-- What the row says is right for the history of its run's records. (No log is read yet as one of a cell.)
 abbrev pub Correct : {A : Type 0} → (History → A → Type 0) → Row A → Type 0
 Correct Right row = Right (historyOf (recordsOf (row .run))) (row .says)
 

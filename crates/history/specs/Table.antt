@@ -6,10 +6,10 @@ use lib.ListN.{length, getD}
 use Rattle.record.specs.declared.record.Event.{Event}
 use Rattle.record.specs.declared.record.Event.the-variants.{CallRemove}
 use Rattle.record.specs.declared.record.Record.{Record}
-use Rattle.reader.specs.Log.{maxRecords, Reading, readable, refused, readLog, operations}
+use Rattle.reader.specs.Log.{Reading, readable, refused, readLog, operations}
 use Rattle.reader.specs.Readable.{recordOf, Regular}
 use Rattle.history.specs.History.{History}
-use Rattle.history.specs.Positions.{positionOf}
+use Rattle.history.specs.Positions.{maxPositions, positionOf, endOf}
 use Rattle.history.specs.Operations.{callIndex, returnIndex, kindBy, valueBy, historyOf}
 use Rattle.history.specs.Owners.{Traced, CallersRoom}
 
@@ -53,7 +53,7 @@ Untouched count before after = (o f : ℕ) → count ≤ o → f < fields → ge
 -- The table holds the history of these records, and nothing else of it has changed.
 pub record HistoryHeld (records : List Record) (before after : List ℕ) : Type 0 where
   pub sized : length after ≡ tableLength
-  pub agree : Agree (tabled (operations records) (length records) after) (historyOf records)
+  pub agree : Agree (tabled (operations records) (endOf records) after) (historyOf records)
   pub untouched : Untouched (operations records) before after
 
 -- the table after a log was read: it holds its history, or is as it was if the log is refused
@@ -89,17 +89,17 @@ pub record Filled (records : List Record) (old : List ℕ) (n count : ℕ) (call
   pub returned : (o : ℕ) → o < count → returnIndex records (callIndex records o) < n
       → Told records table o (recordOf records (returnIndex records (callIndex records o)) .event)
       (positionOf records (returnIndex records (callIndex records o)))
-  pub pending : (o : ℕ) → o < count → n ≤ returnIndex records (callIndex records o) → Told records table o CallRemove (length records)
+  pub pending : (o : ℕ) → o < count → n ≤ returnIndex records (callIndex records o) → Told records table o CallRemove (endOf records)
 
 -- There is room for one record more.
 pub record Room (count end : ℕ) (callers chains table : List ℕ) : Type 0 where
-  pub end-small : end ≤ maxRecords
+  pub end-small : end ≤ maxPositions
   pub callers-room : CallersRoom count callers chains
   pub table-sized : length table ≡ tableLength
 
 -- The tables hold one record more, r, which stands at this position.
 pub record Noted (r : Record) (at count end : ℕ) (callers chains table : List ℕ) (count' : ℕ) (callers' chains' table' : List ℕ) : Type 0 where
-  pub kept : (records : List Record) (old : List ℕ) (n : ℕ) → Regular records → length records ≡ end → n < end → recordOf records n ≡ r → positionOf records n ≡ at
+  pub kept : (records : List Record) (old : List ℕ) (n : ℕ) → Regular records → endOf records ≡ end → n < length records → recordOf records n ≡ r → positionOf records n ≡ at
       → Filled records old n count callers chains table → Filled records old (n + 1) count' callers' chains' table'
 
 -- A log that is readable, of so many records.
@@ -109,10 +109,10 @@ pub record Whole (log : List ℕ) (count : ℕ) : Type 0 where
   pub counted : length records ≡ count
 
 -- The table holds the operations of a readable log.
-pub record TableOf (log : List ℕ) (end count : ℕ) (table : List ℕ) : Type 0 where
+pub record TableOf (log : List ℕ) (size count : ℕ) (table : List ℕ) : Type 0 where
   -- the log is readable, and has so many records
-  pub whole : Whole log end
+  pub whole : Whole log size
   -- they call so many operations
   pub counted : operations (whole .records) ≡ count
   -- which the table holds
-  pub agree : Agree (tabled count end table) (historyOf (whole .records))
+  pub agree : Agree (tabled count (size + 1) table) (historyOf (whole .records))

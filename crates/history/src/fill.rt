@@ -55,7 +55,7 @@ fn outcome_of(removed: Removed) -> Outcome
 }
 
 // Writes the entry of an operation.
-fn enter(table: &mut Operations, o: usize, kind: u32, value: u32, call: u32, returned: u32)
+pub fn enter(table: &mut Operations, o: usize, kind: u32, value: u32, call: u32, returned: u32)
     requires { ⌜ (o < maxRecords) × (length (now table) ≡ tableLength) ⌝ }
     ensures { λ _. ⌜ Entered (now (table .entry)) o kind value call returned (now (table .exit)) ⌝ }
 {
@@ -105,8 +105,8 @@ fn note(
 }
 
 // Fills the table from the records of a readable log.
-pub(crate) fn fill(log: &[u8], end: usize, table: &mut Operations)
-    requires { ⌜ Whole (now log) end × (length (now table) ≡ tableLength) ⌝ }
+pub(crate) fn fill(log: &[u8], records: usize, table: &mut Operations)
+    requires { ⌜ Whole (now log) records × (length (now table) ≡ tableLength) ⌝ }
     ensures { λ _. ⌜ Tabulated (readLog (now (log .entry))) (now (table .entry)) (now (table .exit)) ⌝ }
 {
     let mut callers = [0u32; KEYS];
@@ -119,19 +119,19 @@ pub(crate) fn fill(log: &[u8], end: usize, table: &mut Operations)
         calls: 0,
     };
     let mut i = 0;
-    while i < end {
+    while i < records {
         match decode_at(log, at) {
             // A readable log has a record here.
             Decoded::Malformed(_) => {
                 return;
             }
             Decoded::Found { record, next } => {
-                let place = place_of(log, record, next, i, end, count, batch);
+                let place = place_of(log, record, next, i, records, count, batch);
                 count = note(
                     record,
                     place.position,
                     count,
-                    end,
+                    records + 1,
                     &mut callers,
                     &mut chains,
                     table,

@@ -13,27 +13,42 @@ use Rattle.reader.specs.declared.log.Checked.{Checked}
 use Rattle.reader.specs.declared.log.Checked.the-variants as check
 use Rattle.reader.proofs.Laws.{readable-log, checked-refused}
 use Rattle.history.specs.Object.{Queue}
-use Rattle.history.specs.History.{History}
+use Rattle.history.specs.History.{History, Lone}
 use Rattle.history.specs.Sheet.{orderVerdict, sheetOf}
 use Rattle.history.specs.Table.{tabled}
 use Rattle.history.proofs.Agreeing.{agree-sym}
-use Rattle.history.proofs.Laws.{history-returned, history-lawful}
+use Rattle.history.proofs.Laws.{history-lone}
 use Rattle.history.proofs.Sheets.{sheet-length}
 use Rattle.history.proofs.Tabulating.{Tabled}
-use Rattle.violations.proofs.Laws.{complete-small, complete-is-verdict, agree-lawful, agree-complete-verdict, agree-found}
+use Rattle.violations.proofs.Laws.{verdict-small, agree-lone, agree-verdict, agree-found-settled}
 use Rattle.matching.specs.Held.{Held}
-use Rattle.judge.specs.Decision.{Decided}
+use Rattle.matching.proofs.Holding.{agree-held}
+use Rattle.patterns.specs.declared.find.Finding.{Finding}
+use Rattle.judge.specs.Decision.{Decided, DecidedBy}
+use Rattle.judge.specs.declared.decide.Decision.{Decision}
+use Rattle.judge.specs.declared.decide.Decision.the-variants.{LeftOut, Taking}
 use Rattle.judge.specs.Judge.{Delivers, Judges, judged, turned-down}
 use Rattle.judge.specs.declared.judge.Verdict.{Verdict}
 use Rattle.judge.specs.declared.judge.Verdict.the-variants.{Order, Pattern, Refused}
 
 -- the history in the table is that of a readable log
-pub tabled-held : {log : List ℕ} {count end : ℕ} {table : List ℕ} → Tabled log count end table → Held (tabled count end table)
-tabled-held {log} t = record { lawful = agree-lawful (agree-sym (t .agree)) (history-lawful (readable-log log (t .records) (t .reads))); few = t .few; short = t .short }
+pub tabled-held : {log : List ℕ} {count size : ℕ} {table : List ℕ} → Tabled log count size table → Held (tabled count (size + 1) table)
+tabled-held {log} t = agree-held (readable-log log (t .records) (t .reads)) (t .agree)
+
+pub tabled-lone : {log : List ℕ} {count size : ℕ} {table : List ℕ} → Tabled log count size table → Lone (tabled count (size + 1) table)
+tabled-lone {log} t = agree-lone (agree-sym (t .agree)) (history-lone (readable-log log (t .records) (t .reads)))
+
+-- what is decided, by which list has the operations
+pub left-out-decided : (h : History) (list order : List ℕ) {decision : Decision} {found : Finding} → decision ≡ LeftOut found → DecidedBy h decision list order
+    → Decided h (found .verdict) (found .listed) list
+left-out-decided h list order e decided = rw e at decided
+
+pub taking-decided : (h : History) (list order : List ℕ) {decision : Decision} {k : ℕ} → decision ≡ Taking k → DecidedBy h decision list order → Decided h orderVerdict k order
+taking-decided h list order e decided = rw e at decided
 
 -- a verdict has a byte
 pub decided-byte : {h : History} {byte k : ℕ} {list : List ℕ} → Decided h byte k list → byte < 256
-decided-byte decided = omega (arith, complete-small (decided .verdict))
+decided-byte decided = omega (arith, verdict-small (decided .verdict))
 
 -- it lists as many operations as it says
 pub decided-long : {h : History} {byte k : ℕ} {list : List ℕ} → Decided h byte k list → length (take k list) ≡ k
@@ -57,15 +72,13 @@ module _ (byte : ℕ) (listed sheet : List ℕ) where
     delivers-pattern n = record { answers = rw (fits, ne-eqb byte orderVerdict n) refl; leaves = wrote }
 
 -- a readable log is judged
-pub log-judged : {log : List ℕ} {count end byte k : ℕ} {table list sheet sheet' : List ℕ} {answer : Verdict} → Tabled log count end table → Decided (tabled count end table) byte k list
+pub log-judged : {log : List ℕ} {count size byte k : ℕ} {table list sheet sheet' : List ℕ} {answer : Verdict} → Tabled log count size table → Decided (tabled count (size + 1) table) byte k list
     → Delivers byte (take k list) sheet answer sheet' → Judges (readLog log) sheet answer sheet'
 log-judged {log} {byte = byte} {k = k} {list = list} t decided delivers = rw (t .reads) (judged (record {
   byte = byte;
   listed = take k list;
-  verdict =
-      complete-is-verdict Queue (history-returned (readable-log log (t .records) (t .reads)))
-      (agree-complete-verdict Queue (t .agree) (decided .verdict));
-  chosen = λ e. agree-found (t .agree) (decided .chosen e);
+  verdict = agree-verdict Queue (t .agree) (decided .verdict);
+  chosen = λ e. agree-found-settled (t .agree) (decided .chosen e);
   delivers = delivers;
 }))
 

@@ -15,14 +15,14 @@ use Rattle.reader.specs.Log.{maxRecords, Reading, readable, refused, readLog}
 use Rattle.reader.specs.Readable.{Within}
 use Rattle.reader.proofs.Laws.{readable-log, within}
 use Rattle.history.specs.Object.{Queue}
-use Rattle.history.specs.History.{RemovesReturned, Lawful}
+use Rattle.history.specs.History.{Lawful, Lone}
 use Rattle.history.specs.Operations.{historyOf}
 use Rattle.history.specs.Sheet.{sheetHeader, orderVerdict, sheetOf}
-use Rattle.history.proofs.Laws.{history-returned, history-lawful, returns-apart}
+use Rattle.history.proofs.Laws.{calls-within, returns-within, history-lawful, history-lone, returns-apart}
 use Rattle.history.proofs.Sheets.{sheet-length}
 use Rattle.violations.specs.Verdict as violations
-use Rattle.violations.specs.Found.{Found}
-use Rattle.violations.proofs.Laws.{verdict-one, listed-one, returned-lone, listed-at-most}
+use Rattle.violations.specs.Found.{FoundSettled}
+use Rattle.violations.proofs.Laws.{verdict-one, listed-one, listed-at-most}
 use Rattle.judge.specs.Judge.{verdictOf, byteOf, countOf, sheetBytes, Accepted, order, pattern, Delivers, Judgement, Judges, judged, turned-down}
 use Rattle.judge.specs.declared.judge.Verdict.{Verdict}
 use Rattle.judge.specs.declared.judge.Verdict.the-variants.{Order, Pattern, Refused}
@@ -32,7 +32,7 @@ use Rattle.judge.specs.declared.judge.Verdict.the-variants.{Order, Patte
 pub record Shown (records : List Record) (answer : Verdict) (sheet sheet' : List ℕ) : Type 0 where
   pub listed : List ℕ
   pub verdict : violations.Verdict Queue (historyOf records) (byteOf answer) listed
-  pub chosen : byteOf answer ≡ orderVerdict → Found (historyOf records) listed
+  pub chosen : byteOf answer ≡ orderVerdict → FoundSettled (historyOf records) listed
   pub counted : length listed ≡ countOf answer
   pub holds : take (sheetBytes answer) sheet' ≡ sheetOf (byteOf answer) listed
   pub behind : drop (sheetBytes answer) sheet' ≡ drop (sheetBytes answer) sheet
@@ -50,7 +50,7 @@ pub record TooShort (records : List Record) (number index : ℕ) (sheet sheet' :
 module _ {records : List Record} {sheet sheet' : List ℕ} where
   -- the answer to a verdict that is delivered, by whether there is room
   shown : {byte : ℕ} {listed : List ℕ} → violations.Verdict Queue (historyOf records) byte listed
-      → (byte ≡ orderVerdict → Found (historyOf records) listed) → {answer : Verdict} → Accepted answer
+      → (byte ≡ orderVerdict → FoundSettled (historyOf records) listed) → {answer : Verdict} → Accepted answer
       → (lacks : Bool) → lacksRoom (sheetOf byte listed) sheet ≡ lacks → answer ≡ (if lacks then Refused bufferTooShort 0 else verdictOf byte (length listed))
       → sheet' ≡ (if lacks then sheet else sheetOf byte listed ++ drop (length (sheetOf byte listed)) sheet) → Shown records answer sheet sheet'
   shown verdict chosen order true l e w = let z : _≡_ {A = ℕ} 0 1 = cc in absurd (omega arith)
@@ -108,12 +108,12 @@ accepted-not-refused pattern e = let z : _≡_ {A = ℕ} 0 1 = cc in omega arith
 
 -- There is only one answer, and only one sheet is left: "the result .. and every lent byte follow from the input". An order is the one that the
 -- search finds, so the listed operations follow too.
-judgements-one : {records : List Record} → Lawful (historyOf records) → RemovesReturned (historyOf records)
+judgements-one : {records : List Record} → Lawful (historyOf records) → Lone (historyOf records)
     → {sheet left left' : List ℕ} {answer answer' : Verdict} → Judgement records sheet answer left → Judgement records sheet answer' left'
     → (answer ≡ answer') × (left ≡ left')
-judgements-one lawful returned {sheet} {left} {answer = answer} j k =
+judgements-one lawful lone {sheet} {left} {answer = answer} j k =
     let byte : j .byte ≡ k .byte = verdict-one lawful (j .verdict) (k .verdict) .0 in
-    let listed : j .listed ≡ k .listed = listed-one lawful returned (j .verdict) (j .chosen) (k .verdict) (k .chosen) in
+    let listed : j .listed ≡ k .listed = listed-one lawful lone (j .verdict) (j .chosen) (k .verdict) (k .chosen) in
     let delivers : Delivers (k .byte) (k .listed) sheet answer left = rw (byte, listed) at (j .delivers) in
     (delivers .answers ∙ sym (k .delivers .answers), delivers .leaves ∙ sym (k .delivers .leaves))
 
@@ -123,7 +123,7 @@ judged-determined log j k = go (readLog log) refl j k
     go : (reading : Reading) → readLog log ≡ reading → {sheet left left' : List ℕ} {answer answer' : Verdict} → Judges reading sheet answer left → Judges reading sheet answer' left' → (answer ≡ answer') × (left ≡ left')
     go (readable records) reads (judged j) (judged k) =
         let read = readable-log log records reads in
-        judgements-one (history-lawful read) (history-returned read) j k
+        judgements-one (history-lawful read) (history-lone read) j k
     go (refused number index) reads turned-down turned-down = (refl, refl)
 
 -- The verdict on a log lists at most 682 operations.
@@ -131,11 +131,8 @@ pub verdict-at-most : (log : List ℕ) {records : List Record} → readLog log �
     → violations.Verdict Queue (historyOf records) byte listed → length listed ≤ 682
 verdict-at-most log {records} reads verdict =
     let read = readable-log log records reads in
-    let lawful = history-lawful read in
-    listed-at-most lawful (returns-apart read) (record {
-      calls = λ o l. omega (arith, lawful .spans o l, lawful .ends o l);
-      returns = λ o l back. back;
-    }) (read .partial .regular .few) Queue (returned-lone (history-returned read)) verdict
+    listed-at-most (history-lawful read) (returns-apart read) (record { calls = calls-within read; returns = λ o l. returns-within read o })
+    (read .partial .regular .few) Queue (history-lone read) verdict
 
 -- So 1,368 bytes, 4 and 2 for each of them, are enough for its sheet.
 pub long-enough : (log : List ℕ) {records : List Record} → readLog log ≡ readable records → {sheet sheet' : List ℕ} {answer : Verdict} → 1368 ≤ length sheet → Judges (readLog log) sheet answer sheet' → Accepted answer

@@ -1,3 +1,4 @@
 pub mod Answering
 pub mod Deciding
+pub mod Fating
 pub mod Laws

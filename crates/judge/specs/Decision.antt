@@ -7,13 +7,27 @@ use Rattle.reader.specs.Log.{maxRecords}
 use Rattle.history.specs.Object.{Queue}
 use Rattle.history.specs.History.{History}
 use Rattle.history.specs.Sheet.{orderVerdict}
-use Rattle.violations.specs.Verdict.{CompleteVerdict}
-use Rattle.violations.specs.Found.{Found}
+use Rattle.violations.specs.Verdict.{CompleteVerdict, Verdict}
+use Rattle.violations.specs.Found.{Found, FoundSettled}
+use Rattle.judge.specs.declared.decide.Decision.{Decision}
+use Rattle.judge.specs.declared.decide.Decision.the-variants.{LeftOut, Taking}
 
--- The first k numbers of the list are the operations that the verdict lists. An order is the one that the search finds. (No remove
--- of a readable log is pending, so the verdict on the history as it stands is the verdict.)
-pub record Decided (h : History) (byte k : ℕ) (list : List ℕ) : Type 0 where
+-- The first k numbers of the list are the operations that the verdict on the history as it stands lists: a remove without return is left out. An order
+-- is the one that the search finds.
+pub record CompleteDecided (h : History) (byte k : ℕ) (list : List ℕ) : Type 0 where
   pub sized : length list ≡ maxRecords
   pub within : k ≤ maxRecords
   pub verdict : CompleteVerdict Queue h byte (take k list)
   pub chosen : byte ≡ orderVerdict → Found h (take k list)
+
+-- The same for the verdict, where the fates of a remove without return are tried.
+pub record Decided (h : History) (byte k : ℕ) (list : List ℕ) : Type 0 where
+  pub sized : length list ≡ maxRecords
+  pub within : k ≤ maxRecords
+  pub verdict : Verdict Queue h byte (take k list)
+  pub chosen : byte ≡ orderVerdict → FoundSettled h (take k list)
+
+-- It is decided, and the operations stand in the list that the decision names.
+abbrev pub DecidedBy : History → Decision → List ℕ → List ℕ → Type 0
+DecidedBy h (LeftOut found) list order = Decided h (found .verdict) (found .listed) list
+DecidedBy h (Taking k) list order = Decided h orderVerdict k order

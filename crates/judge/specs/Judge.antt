@@ -13,7 +13,7 @@ use Rattle.history.specs.Object.{Queue}
 use Rattle.history.specs.Operations.{historyOf}
 use Rattle.history.specs.Sheet.{sheetHeader, orderVerdict, sheetOf}
 use Rattle.violations.specs.Verdict as violations
-use Rattle.violations.specs.Found.{Found}
+use Rattle.violations.specs.Found.{FoundSettled}
 use Rattle.judge.specs.declared.judge.Verdict.{Verdict}
 use Rattle.judge.specs.declared.judge.Verdict.the-variants.{Order, Pattern, Refused}
 
@@ -50,12 +50,13 @@ pub record Delivers (byte : ℕ) (listed sheet : List ℕ) (answer : Verdict) (s
   pub leaves : sheet' ≡ written (sheetOf byte listed) sheet
 
 -- A readable log is judged: it has a verdict, an order as the judge lists it or the first pattern, and that is delivered. Document 01 leaves open
--- which legal order is listed; here it is the one that the search finds, so the history alone decides it.
+-- which legal order is listed; here it is the one that the search finds, once it is settled what becomes of a remove without return, so the history
+-- alone decides it.
 pub record Judgement (records : List Record) (sheet : List ℕ) (answer : Verdict) (sheet' : List ℕ) : Type 0 where
   pub byte : ℕ
   pub listed : List ℕ
   pub verdict : violations.Verdict Queue (historyOf records) byte listed
-  pub chosen : byte ≡ orderVerdict → Found (historyOf records) listed
+  pub chosen : byte ≡ orderVerdict → FoundSettled (historyOf records) listed
   pub delivers : Delivers byte listed sheet answer sheet'
 
 -- A log, as it was read, is judged into a sheet: this is the answer, and this sheet is left. A log that is not readable "returns its number and a

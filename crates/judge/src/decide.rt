@@ -1,11 +1,19 @@
 // The verdict on the history in a table: patterns 1 to 3 as values are matched, then the search for an order, and 4 to 6 only if that stops
-// short. specs/Decision.antt says what is found.
+// short. Where a remove has not returned and leaving it out gives a pattern, the one fate that can succeed is tried. specs/Decision.antt says what
+// is found.
 ghost use mathlib.Core.Path.{_≡_};
 ghost use lib.ListN.{length};
 ghost use Rattle.reader.specs.Log.{maxRecords};
-ghost use Rattle.history.specs.Table.{tabled};
+ghost use Rattle.history.specs.History.{noKind, Lone};
+ghost use Rattle.history.specs.Table.{tableLength, tabled};
+ghost use Rattle.violations.specs.Violations.{Is};
 ghost use Rattle.matching.specs.Held.{Held};
-ghost use Rattle.judge.specs.Decision.{Decided};
+ghost use Rattle.matching.specs.Matching.{Cleared, Partners};
+ghost use Rattle.patterns.specs.Finding.{PatternListed};
+ghost use Rattle.judge.specs.Decision.{CompleteDecided, DecidedBy};
+use fates::fates::pending_remove;
+use fates::fates::soonest_free;
+use fates::fates::take;
 use history::operations::Operations;
 use matching::reaches::fill_reaches;
 use matching::values::Numbers;
@@ -18,24 +26,88 @@ use reader::format::MAX_RECORDS;
 use search::order::Ended;
 use search::order::find_order;
 
-// The verdict on the history in the table, and the operations that it lists.
-pub fn decide(table: &Operations, count: usize, end: usize, list: &mut Numbers) -> Finding
-    requires { ⌜ Held (tabled count end (now table)) × (length (now list) ≡ maxRecords) ⌝ }
-    ensures { λ f. ⌜ Decided (tabled count end (now (table .entry))) (f .verdict) (f .listed) (now (list .exit)) ⌝ }
+// The verdict on the history in the table as it stands, with a remove without return left out, and the operations that it lists. The partners of
+// the operations are left in their table.
+pub fn decide_complete(
+    table: &Operations,
+    count: usize,
+    end: usize,
+    partner: &mut Numbers,
+    list: &mut Numbers,
+) -> Finding
+    requires { ⌜ Held (tabled count end (now table)) × Cleared maxRecords (now partner) × (length (now list) ≡ maxRecords) ⌝ }
+    ensures { λ f. ⌜ Partners (now (table .entry)) count (now (partner .exit)) × CompleteDecided (tabled count end (now (table .entry))) (f .verdict) (f .listed) (now (list .exit)) ⌝ }
 {
-    let mut partner = [0u32; MAX_RECORDS];
-    match_values(table, count, &mut partner);
-    let sign = find_sign(table, count, end, &partner, list);
+    match_values(table, count, partner);
+    let sign = find_sign(table, count, end, partner, list);
     if sign.verdict != ORDER {
         return sign;
     }
     let mut reach = [0u32; MAX_RECORDS];
-    fill_reaches(table, count, end, &partner, &mut reach);
-    match find_order(table, count, end, &partner, &reach, list) {
+    fill_reaches(table, count, end, partner, &mut reach);
+    match find_order(table, count, end, partner, &reach, list) {
         Ended::Whole(placed) => Finding {
             verdict: ORDER,
             listed: placed,
         },
-        Ended::Short => find_cause(table, count, end, &partner, &reach, list),
+        Ended::Short => find_cause(table, count, end, partner, &reach, list),
     }
+}
+
+// What is decided: the verdict with a remove without return left out, whose operations stand in the list; or an order of so many operations in
+// which that remove takes a value, and they stand in the order.
+pub enum Decision {
+    LeftOut(Finding),
+    Taking(usize),
+}
+
+// Decides where remove o has not returned and this pattern was found with it left out. The table then holds the history with the fate that was
+// tried.
+fn settle(
+    table: &mut Operations,
+    count: usize,
+    end: usize,
+    partner: &mut Numbers,
+    o: usize,
+    found: Finding,
+    list: &Numbers,
+    order: &mut Numbers,
+) -> Decision
+    requires { ⌜ Held (tabled count end (now table)) × Lone (tabled count end (now table)) × (length (now table) ≡ tableLength) × Partners (now table) count (now partner) × Is (tabled count end (now table)) noKind o × PatternListed (tabled count end (now table)) (found .verdict) (found .listed) (now list) × (length (now order) ≡ maxRecords) ⌝ }
+    ensures { λ d. ⌜ DecidedBy (tabled count end (now (table .entry))) d (now (list .entry)) (now (order .exit)) ⌝ }
+{
+    let a = soonest_free(table, count, end, partner);
+    if count <= a {
+        return Decision::LeftOut(found);
+    }
+    take(table, end, o, a);
+    *partner = [0u32; MAX_RECORDS];
+    let tried = decide_complete(table, count, end, partner, order);
+    if tried.verdict != ORDER {
+        return Decision::LeftOut(found);
+    }
+    Decision::Taking(tried.listed)
+}
+
+// Decides the history in the table, which is then used up.
+pub fn decide(
+    table: &mut Operations,
+    count: usize,
+    end: usize,
+    list: &mut Numbers,
+    order: &mut Numbers,
+) -> Decision
+    requires { ⌜ Held (tabled count end (now table)) × Lone (tabled count end (now table)) × (length (now table) ≡ tableLength) × (length (now list) ≡ maxRecords) × (length (now order) ≡ maxRecords) ⌝ }
+    ensures { λ d. ⌜ DecidedBy (tabled count end (now (table .entry))) d (now (list .exit)) (now (order .exit)) ⌝ }
+{
+    let mut partner = [0u32; MAX_RECORDS];
+    let found = decide_complete(table, count, end, &mut partner, list);
+    if found.verdict == ORDER {
+        return Decision::LeftOut(found);
+    }
+    let o = pending_remove(table, count);
+    if count <= o {
+        return Decision::LeftOut(found);
+    }
+    settle(table, count, end, &mut partner, o, found, list, order)
 }

@@ -3,6 +3,7 @@ ghost use Prim.Native.Nat.{_≤_, _<_};
 ghost use lib.ListN.{length};
 ghost use Rattle.reader.specs.Log.{maxRecords, readLog};
 ghost use Rattle.judge.specs.Judge.{Judges, Delivers};
+use crate::decide::Decision;
 use crate::decide::decide;
 use buffer::buffer::BUFFER_TOO_SHORT;
 use history::operations::TABLE;
@@ -55,8 +56,11 @@ pub fn judge(log: &[u8], sheet: &mut [u8]) -> Verdict
             operations,
         } => {
             let mut list = [0u32; MAX_RECORDS];
-            let found = decide(&table, operations, records, &mut list);
-            deliver(found.verdict, &list[..found.listed], sheet)
+            let mut order = [0u32; MAX_RECORDS];
+            match decide(&mut table, operations, records + 1, &mut list, &mut order) {
+                Decision::LeftOut(found) => deliver(found.verdict, &list[..found.listed], sheet),
+                Decision::Taking(placed) => deliver(ORDER, &order[..placed], sheet),
+            }
         }
     }
 }

@@ -12,7 +12,7 @@ use Rattle.history.specs.Object.{Queue}
 use Rattle.history.specs.Operations.{historyOf}
 use Rattle.history.specs.Sheet.{orderVerdict}
 use Rattle.violations.specs.Verdict.{Verdict}
-use Rattle.violations.specs.Found.{Found}
+use Rattle.violations.specs.Found.{FoundSettled}
 
 -- "Line 1: n, then the calls."
 abbrev pub countsLine : ℕ → ℕ → List ℕ
@@ -38,7 +38,7 @@ pub record JudgedReport (records : List Record) (text : List ℕ) : Type 0 where
   pub byte : ℕ
   pub listed : List ℕ
   pub verdict : Verdict Queue (historyOf records) byte listed
-  pub chosen : byte ≡ orderVerdict → Found (historyOf records) listed
+  pub chosen : byte ≡ orderVerdict → FoundSettled (historyOf records) listed
   pub lines : text ≡ countsLine (length records) (operations records) ++ verdictLine byte listed
 
 -- A text is the report of a log, as it was read.

@@ -14,7 +14,7 @@ use Rattle.matching.specs.Matching.{AddOf, Takes, Cleared, partnerAt, Ad
 use Rattle.matching.proofs.Storing.{entry-stored}
 
 -- nothing is matched in a new table
-pub matching-none : (table : List ℕ) (count : ℕ) {partner : List ℕ} → Cleared partner → Matching table count 0 partner
+pub matching-none : (table : List ℕ) (count : ℕ) {partner : List ℕ} → Cleared maxRecords partner → Matching table count 0 partner
 matching-none table count cleared = record {
   sized = cleared .sized;
   adders = λ r l. absurd (omega arith);

@@ -6,8 +6,8 @@ use mathlib.Core.Path.{_≡_, refl, sym, _∙_}
 use mathlib.Core.Logic.{_⊎_, inl, inr}
 use mathlib.Core.List.{List}
 use lib.ListN.{getD, set, length-set}
-use Rattle.reader.specs.Log.{maxRecords}
 use Rattle.history.specs.History.{History, add}
+use Rattle.history.specs.Positions.{maxPositions}
 use Rattle.history.proofs.Basics.{up-to}
 use Rattle.violations.specs.Violations.{Is}
 use Rattle.matching.specs.Matching.{Cleared}
@@ -16,7 +16,7 @@ use Rattle.matching.proofs.Numbers.{Larger}
 use Rattle.matching.proofs.Storing.{entry-stored}
 
 -- nothing is noted in a new table
-pub returns-none : (h : History) (number : List ℕ) {noted : List ℕ} → Cleared noted → ReturnsNoted h number 0 noted
+pub returns-none : (h : History) (number : List ℕ) {noted : List ℕ} → Cleared maxPositions noted → ReturnsNoted h number 0 noted
 returns-none h number cleared = record {
   sized = cleared .sized;
   highest = λ g l. record { over = λ a m. absurd (omega arith); met = λ p. absurd (omega (arith, cleared .zero g)) };
@@ -36,7 +36,7 @@ module _ {h : History} {number : List ℕ} {n : ℕ} {noted : List ℕ} (so-far 
   returns-other other = record { sized = so-far .sized; highest = λ g l. noted-at-other (so-far .highest g l) (λ is e. other is (omega arith)) }
 
   -- an add that has returned is noted at its return
-  pub returns-add : h .end ≤ maxRecords → Is h add n → h .ret n < h .end → {x : ℕ} → Larger (getD noted (h .ret n) 0) (getD number n 0) x
+  pub returns-add : h .end ≤ maxPositions → Is h add n → h .ret n < h .end → {x : ℕ} → Larger (getD noted (h .ret n) 0) (getD number n 0) x
       → ReturnsNoted h number (n + 1) (set noted (h .ret n) x)
   returns-add short is returned {x} (old, new, one) = record {
     sized = simp length-set (so-far .sized);

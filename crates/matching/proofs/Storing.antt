@@ -6,7 +6,6 @@ use mathlib.Core.Path.{_≡_}
 use mathlib.Core.List.{List}
 use lib.ListN.{length, getD, set, replicate, length-replicate}
 use lib.Seq.{getD-set-same, getD-set-other}
-use Rattle.reader.specs.Log.{maxRecords}
 use Rattle.table.proofs.Lists.{zeros}
 use Rattle.matching.specs.Matching.{Cleared}
 
@@ -28,5 +27,5 @@ pub filled-back : (P : ℕ → ℕ → Type 0) {n end x : ℕ} (xs : List ℕ) �
 filled-back P {n} {x = x} xs some within old new o l m = entry-stored (P o) xs (n - 1) x o (omega arith) (λ e. rw e new) (λ d. old o (omega arith) m)
 
 -- a new table is cleared
-pub new-cleared : Cleared (replicate maxRecords 0)
-new-cleared = record { sized = length-replicate {A = ℕ} maxRecords 0; zero = zeros maxRecords }
+pub new-cleared : (size : ℕ) → Cleared size (replicate size 0)
+new-cleared size = record { sized = length-replicate {A = ℕ} size 0; zero = zeros size }

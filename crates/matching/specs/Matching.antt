@@ -28,9 +28,9 @@ pub record Takes (table : List ℕ) (a r : ℕ) : Type 0 where
   pub removes : kindAt table r ≡ remove
   pub same : valueAt table r ≡ valueAt table a
 
--- A table of numbers, all of them 0.
-pub record Cleared (numbers : List ℕ) : Type 0 where
-  pub sized : length numbers ≡ maxRecords
+-- A table of so many numbers, all of them 0.
+pub record Cleared (size : ℕ) (numbers : List ℕ) : Type 0 where
+  pub sized : length numbers ≡ size
   pub zero : (o : ℕ) → getD numbers o 0 ≡ 0
 
 -- the partner of an operation: a number 1 above an operation, or 0

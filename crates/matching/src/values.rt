@@ -75,7 +75,7 @@ fn match_value(
 // Fills the table of partners: for a remove a number 1 above the add of its value, for an add 1 above the latest remove of its value, or 0
 // where there is none.
 pub fn match_values(table: &Operations, count: usize, partner: &mut Numbers)
-    requires { ⌜ (count ≤ maxRecords) × AddedOnce (now table) count × Cleared (now partner) ⌝ }
+    requires { ⌜ (count ≤ maxRecords) × AddedOnce (now table) count × Cleared maxRecords (now partner) ⌝ }
     ensures { λ _. ⌜ Partners (now (table .entry)) count (now (partner .exit)) ⌝ }
 {
     let mut values = [0u32; KEYS];

@@ -48,9 +48,9 @@ module _ {h : History} {e gap listed : ℕ} {list : List ℕ} (linked : Linked h
   }
 
   module _ (before : gap < h .ret e) where
-    -- an empty remove has returned, so it has fewer gaps than the list has places
+    -- an empty remove returns at the position of a record, so it has fewer gaps than the list has places
     pub room-left : Held h → Is h emptyRemove e → listed < maxRecords
-    room-left held is = omega (arith, linked .few, held .lawful .returned e (is .known) (omega (arith, is .kinds)), held .short)
+    room-left held is = omega (arith, linked .few, held .empties e (is .known) (is .kinds))
 
     -- the next link is listed
     pub linked-more : {a far : ℕ} → listed < maxRecords → Furthest h a far gap → Linked h e far (listed + 1) (set list listed a)

@@ -8,6 +8,7 @@ use mathlib.Core.List.{List}
 use lib.ListN.{getD, set, length-set}
 use Rattle.reader.specs.Log.{maxRecords}
 use Rattle.history.specs.History.{History, add}
+use Rattle.history.specs.Positions.{maxPositions}
 use Rattle.history.proofs.Basics.{up-to}
 use Rattle.matching.proofs.Storing.{entry-stored, filled-back}
 use Rattle.patterns.specs.Chains.{rankBy, Ranked, NextNoted, NextTable}
@@ -43,7 +44,7 @@ module _ {end : ℕ} {noted : List ℕ} {p : ℕ} where
       at g b m (no d) = later .none-before g (omega arith) m
 
   -- one entry more
-  pub nexts-back : {next : List ℕ} → NextTable end noted p next → {x : ℕ} → 0 < p → p ≤ maxRecords → NextNoted end noted (p - 1) x
+  pub nexts-back : {next : List ℕ} → NextTable end noted p next → {x : ℕ} → 0 < p → p ≤ maxPositions → NextNoted end noted (p - 1) x
       → NextTable end noted (p - 1) (set next (p - 1) x)
   nexts-back {next} so-far l within there = record {
     sized = simp length-set (so-far .sized);

@@ -5,8 +5,8 @@ use native.Mathlib.Decide.{ℕ-discrete}
 use mathlib.Core.Path.{_≡_}
 use mathlib.Core.List.{List}
 use lib.ListN.{length, set, length-set}
-use Rattle.reader.specs.Log.{maxRecords}
 use Rattle.history.specs.History.{History}
+use Rattle.history.specs.Positions.{maxPositions}
 use Rattle.matching.specs.Answers.{First, LeastFrom}
 use Rattle.matching.specs.Held.{Held}
 use Rattle.matching.proofs.Numbers.{Smaller, least-starts, least-back}
@@ -66,7 +66,7 @@ pub record Filling (h : History) (partner soonest : List ℕ) (least o p : ℕ) 
   pub filled : SoonestTable h partner p soonest
 
 -- nothing is filled at the end
-pub filling-starts : {h : History} {partner soonest : List ℕ} → Held h → length soonest ≡ maxRecords
+pub filling-starts : {h : History} {partner soonest : List ℕ} → Held h → length soonest ≡ maxPositions
     → Filling h partner soonest (h .end) (h .count) (h .end)
 filling-starts held sized = record {
   within = omega arith;

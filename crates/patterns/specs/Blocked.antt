@@ -5,8 +5,8 @@ use mathlib.Core.List.{List}
 use lib.ListN.{length, getD}
 use lib.Dec.{eqb}
 use Rattle.record.specs.Choice.{if_then_else_}
-use Rattle.reader.specs.Log.{maxRecords}
 use Rattle.history.specs.History.{History, add}
+use Rattle.history.specs.Positions.{maxPositions}
 use Rattle.history.specs.Table.{kindAt, callAt, returnAt}
 use Rattle.matching.specs.Answers.{First, LeastFrom}
 use Rattle.matching.specs.Matching.{partnerAt}
@@ -43,5 +43,5 @@ pub record Soonest (h : History) (partner : List ℕ) (p x : ℕ) : Type 0 where
 
 -- the table of these returns, from position n on
 pub record SoonestTable (h : History) (partner : List ℕ) (n : ℕ) (soonest : List ℕ) : Type 0 where
-  pub sized : length soonest ≡ maxRecords
+  pub sized : length soonest ≡ maxPositions
   pub returns : (p : ℕ) → n ≤ p → p < h .end → Soonest h partner p (getD soonest p 0)

@@ -6,6 +6,7 @@ use mathlib.Core.List.{List, _∷_}
 use lib.ListN.{length, getD, take}
 use Rattle.reader.specs.Log.{maxRecords}
 use Rattle.history.specs.History.{History, add, emptyRemove}
+use Rattle.history.specs.Positions.{maxPositions}
 use Rattle.violations.specs.Violations.{Is, AllCovered, Chain, FalseEmpty}
 use Rattle.matching.specs.Returns.{ReturnsNoted}
 use Rattle.matching.specs.Reaches.{reachAt, Reaching}
@@ -36,7 +37,7 @@ pub record NextNoted (end : ℕ) (noted : List ℕ) (p x : ℕ) : Type 0 where
 
 -- the table of these positions, from position n on
 pub record NextTable (end : ℕ) (noted : List ℕ) (n : ℕ) (next : List ℕ) : Type 0 where
-  pub sized : length next ≡ maxRecords
+  pub sized : length next ≡ maxPositions
   pub nexts : (p : ℕ) → n ≤ p → p < end → NextNoted end noted p (getD next p 0)
 
 -- The first k numbers of the list are operation e and a chain that covers its gaps; or k is 0, and not all of them are covered.

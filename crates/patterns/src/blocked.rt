@@ -6,6 +6,7 @@ ghost use lib.ListN.{length};
 ghost use Rattle.reader.specs.Log.{maxRecords};
 ghost use Rattle.history.specs.Answers.{Decides};
 ghost use Rattle.history.specs.History.{add};
+ghost use Rattle.history.specs.Positions.{maxPositions};
 ghost use Rattle.history.specs.Table.{tabled};
 ghost use Rattle.violations.specs.Violations.{Is};
 ghost use Rattle.matching.specs.Answers.{First};
@@ -18,6 +19,7 @@ use history::operations::Operations;
 use history::operations::call_of;
 use history::operations::kind_of;
 use history::operations::return_of;
+use matching::returns::Positions;
 use matching::values::Numbers;
 use table::number::min;
 
@@ -48,9 +50,9 @@ pub(crate) fn fill_soonest(
     count: usize,
     end: usize,
     partner: &Numbers,
-    soonest: &mut Numbers,
+    soonest: &mut Positions,
 )
-    requires { ⌜ Held (tabled count end (now table)) × Partners (now table) count (now partner) × (length (now soonest) ≡ maxRecords) ⌝ }
+    requires { ⌜ Held (tabled count end (now table)) × Partners (now table) count (now partner) × (length (now soonest) ≡ maxPositions) ⌝ }
     ensures { λ _. ⌜ SoonestTable (tabled count end (now (table .entry))) (now (partner .entry)) 0 (now (soonest .exit)) ⌝ }
 {
     let mut least = end as u32;
@@ -107,7 +109,7 @@ fn shows_blocking(
     end: usize,
     partner: &Numbers,
     reach: &Numbers,
-    soonest: &Numbers,
+    soonest: &Positions,
     a: usize,
     pattern: u32,
 ) -> bool
@@ -134,7 +136,7 @@ pub(crate) fn first_blocking(
     end: usize,
     partner: &Numbers,
     reach: &Numbers,
-    soonest: &Numbers,
+    soonest: &Positions,
     pattern: u32,
 ) -> usize
     requires { ⌜ Held (tabled count end (now table)) × Reaching (tabled count end (now table)) (now reach) × SoonestTable (tabled count end (now table)) (now partner) 0 (now soonest) ⌝ }

@@ -3,6 +3,7 @@ ghost use mathlib.Core.Path.{_≡_};
 ghost use Prim.Native.Nat.{_≤_};
 ghost use lib.ListN.{length};
 ghost use Rattle.reader.specs.Log.{maxRecords};
+ghost use Rattle.history.specs.Positions.{maxPositions};
 ghost use Rattle.history.specs.Table.{tabled};
 ghost use Rattle.history.specs.History.{emptyRemove};
 ghost use Rattle.violations.specs.Violations.{Is};
@@ -15,6 +16,8 @@ use history::operations::Operations;
 use history::operations::call_of;
 use history::operations::kind_of;
 use history::operations::return_of;
+use matching::returns::POSITIONS;
+use matching::returns::Positions;
 use matching::returns::note_returns;
 use matching::values::Numbers;
 use reader::format::MAX_RECORDS;
@@ -43,8 +46,8 @@ fn fill_ranks(table: &Operations, count: usize, end: usize, reach: &Numbers, ran
 
 // Fills, for each position, the first one from there on at which something is noted, or the end if there is none. It goes from the last position
 // down.
-fn fill_next(end: usize, noted: &Numbers, next: &mut Numbers)
-    requires { ⌜ (end ≤ maxRecords) × (length (now noted) ≡ maxRecords) × (length (now next) ≡ maxRecords) ⌝ }
+fn fill_next(end: usize, noted: &Positions, next: &mut Positions)
+    requires { ⌜ (end ≤ maxPositions) × (length (now noted) ≡ maxPositions) × (length (now next) ≡ maxPositions) ⌝ }
     ensures { λ _. ⌜ NextTable end (now (noted .entry)) 0 (now (next .exit)) ⌝ }
 {
     let mut first = end as u32;
@@ -66,8 +69,8 @@ fn chain(
     table: &Operations,
     count: usize,
     end: usize,
-    noted: &Numbers,
-    next: &Numbers,
+    noted: &Positions,
+    next: &Positions,
     e: usize,
     list: &mut Numbers,
 ) -> usize
@@ -114,9 +117,9 @@ pub(crate) fn false_empty(
 {
     let mut rank = [0u32; MAX_RECORDS];
     fill_ranks(table, count, end, reach, &mut rank);
-    let mut noted = [0u32; MAX_RECORDS];
+    let mut noted = [0u32; POSITIONS];
     note_returns(table, count, end, &rank, &mut noted);
-    let mut next = [0u32; MAX_RECORDS];
+    let mut next = [0u32; POSITIONS];
     fill_next(end, &noted, &mut next);
     let mut e = 0;
     while e < count {

@@ -23,8 +23,9 @@ use crate::signs::UNKNOWN;
 use crate::signs::first_showing;
 use crate::signs::removed_again;
 use history::operations::Operations;
+use matching::returns::POSITIONS;
+use matching::returns::Positions;
 use matching::values::Numbers;
-use reader::format::MAX_RECORDS;
 
 // The verdict byte, 0 for an order or the number of a pattern, and how many operations it lists.
 pub struct Finding {
@@ -86,7 +87,7 @@ fn find_pair(
     end: usize,
     partner: &Numbers,
     reach: &Numbers,
-    soonest: &Numbers,
+    soonest: &Positions,
     pattern: u32,
     list: &mut Numbers,
 ) -> usize
@@ -120,7 +121,7 @@ pub fn find_cause(
     requires { ⌜ Held (tabled count end (now table)) × Partners (now table) count (now partner) × Unsigned (now table) count (now partner) × Reaching (tabled count end (now table)) (now reach) × (NoViolation Queue (tabled count end (now table)) → ⊥) × (length (now list) ≡ maxRecords) ⌝ }
     ensures { λ f. ⌜ PatternListed (tabled count end (now (table .entry))) (f .verdict) (f .listed) (now (list .exit)) ⌝ }
 {
-    let mut soonest = [0u32; MAX_RECORDS];
+    let mut soonest = [0u32; POSITIONS];
     fill_soonest(table, count, end, partner, &mut soonest);
     let stuck = find_pair(table, count, end, partner, reach, &soonest, STUCK, list);
     if 0 < stuck {

@@ -1,7 +1,8 @@
 -- From what the judge finds to the excerpt.
-use Prim.Native.Nat.{ℕ, zero, suc, _≤_, _<_}
+use Prim.Native.Nat.{ℕ, zero, suc, _+_, _≤_, _<_}
 use native.Mathlib.Omega.{arith}
 use mathlib.Core.Path.{_≡_, refl, sym, ap, _∙_}
+use mathlib.Core.Bool.{Bool, true, false}
 use mathlib.Core.Logic.{_⊎_, inl, inr}
 use mathlib.Core.List.{List, [], _∷_}
 use lib.ListN.{length, getD, take}
@@ -10,26 +11,28 @@ use Rattle.buffer.specs.Buffer.{written}
 use Rattle.buffer.specs.Output.{writing}
 use Rattle.buffer.specs.declared.output.Output.{Output}
 use Rattle.buffer.specs.declared.output.Output.the-variants.{Refused}
-use Rattle.reader.specs.Log.{maxRecords, refused, readLog, checked, encodeLog}
+use Rattle.reader.specs.Log.{maxRecords, refused, readLog, checked, encodeLog, hasPendingRemove}
 use Rattle.reader.specs.declared.log.Checked.{Checked}
 use Rattle.reader.specs.declared.log.Checked.the-variants as check
 use Rattle.reader.proofs.Laws.{checked-refused}
 use Rattle.history.specs.Object.{Queue}
 use Rattle.history.specs.Each.{Each}
-use Rattle.history.specs.History.{History, Lawful}
+use Rattle.history.specs.History.{History, noKind, RemovesReturned, Lawful}
 use Rattle.history.specs.Operations.{historyOf}
 use Rattle.history.specs.Sheet.{orderVerdict}
-use Rattle.history.specs.Table.{tabled, Agree, TableOf}
+use Rattle.history.specs.Table.{kindAt, tabled, Agree, TableOf}
 use Rattle.history.proofs.Along.{whole-readable}
-use Rattle.history.proofs.Agreeing.{agree-sym}
-use Rattle.history.proofs.Laws.{history-lawful}
+use Rattle.history.proofs.Laws.{history-lawful, history-returned, history-none-pending}
 use Rattle.violations.specs.Violations.{NoViolation}
 use Rattle.violations.specs.Verdict.{FirstViolation, SomeViolation, CompleteVerdict}
-use Rattle.violations.proofs.Laws.{first-violation, first-violation-one, occurs-known, excluded, judged-complete, complete-zero, complete-pattern, agree-lawful, agree-complete-verdict}
+use Rattle.violations.proofs.Laws.{first-violation, first-violation-one, occurs-known, excluded, judged-complete, complete-zero, complete-pattern, agree-complete-verdict}
+use Rattle.matching.specs.Answers.{First}
 use Rattle.matching.specs.Held.{Held}
-use Rattle.judge.specs.Decision.{Decided}
+use Rattle.matching.proofs.Firsts.{none-found}
+use Rattle.matching.proofs.Holding.{agree-held}
+use Rattle.judge.specs.Decision.{CompleteDecided}
 use Rattle.projection.specs.Projection.{valuesOf, projection, excerpted}
-use Rattle.projection.specs.Outcome.{noPattern, excerptAnswerOf, excerptLeavesOf, excerptAnswer, excerptLeaves}
+use Rattle.projection.specs.Outcome.{removeUnreturned, noPattern, excerptAnswerOf, excerptLeavesOf, excerptAnswer, excerptLeaves}
 use Rattle.projection.specs.Marks.{entriesOf}
 use Rattle.projection.specs.Listed.{Listable}
 use Rattle.projection.specs.Copies.{Writes}
@@ -61,14 +64,33 @@ module _ {log : List ℕ} {n m : ℕ} {table : List ℕ} (of : TableOf log n m t
   lawful = history-lawful (whole-readable (of .whole))
 
   -- the judge may be asked of the table
-  pub held : Held (tabled m n table)
-  held = record {
-    lawful = agree-lawful (agree-sym (of .agree)) lawful;
-    few = count-small of;
-    short = omega (arith, of .whole .counted, whole-readable (of .whole) .partial .regular .few);
-  }
+  pub held : Held (tabled m (n + 1) table)
+  held = agree-held (whole-readable (of .whole)) (of .agree)
 
-  module _ {verdict k : ℕ} {list : List ℕ} (decided : Decided (tabled m n table) verdict k list) where
+  -- a remove that has not returned is found in the table exactly if the log has one
+  found-pending : {o : ℕ} → First (λ p. kindAt table p ≡ noKind) m o → o < m → hasPendingRemove (of .whole .records) ≡ true
+  found-pending {o} first l = by (hasPendingRemove (of .whole .records)) refl
+    where
+      by : (b : Bool) → hasPendingRemove (of .whole .records) ≡ b → b ≡ true
+      by true e = refl
+      by false e =
+          let kinded = history-returned (whole-readable (of .whole)) e o (omega (arith, of .agree .count)) in
+          absurd (omega (arith, kinded, of .agree .kind o l, first .holds l))
+
+  pub none-pending : {o : ℕ} → First (λ p. kindAt table p ≡ noKind) m o → m ≤ o → RemovesReturned (tabled m (n + 1) table)
+  none-pending first l p known = let unkinded : kindAt table p ≡ noKind → ⊥ = none-found first (omega (arith, first .within)) p known in omega arith
+
+  all-returned : RemovesReturned (tabled m (n + 1) table) → hasPendingRemove (of .whole .records) ≡ false
+  all-returned returned =
+      history-none-pending (whole-readable (of .whole))
+      (λ o l. let known : o < m = omega (arith, of .agree .count) in omega (arith, returned o known, of .agree .kind o known))
+
+  -- there is one
+  pub pending-found : {o : ℕ} → First (λ p. kindAt table p ≡ noKind) m o → o < m → (out : List ℕ)
+      → (Refused removeUnreturned 0 ≡ excerptAnswer (readLog log) out) × (out ≡ excerptLeaves (readLog log) out)
+  pending-found first l out = rw (of .whole .reads, found-pending first l) (refl, refl)
+
+  module _ (returned : RemovesReturned (tabled m (n + 1) table)) {verdict k : ℕ} {list : List ℕ} (decided : CompleteDecided (tabled m (n + 1) table) verdict k list) where
     -- the operations that it lists
     pub listed-length : k ≡ length (take k list)
     listed-length = sym (length-take-le k list (omega (arith, decided .within, decided .sized)))
@@ -79,7 +101,7 @@ module _ {log : List ℕ} {n m : ℕ} {table : List ℕ} (of : TableOf log n m t
 
     -- the verdict is an order
     pub order-found : verdict ≡ orderVerdict → (out : List ℕ) → (Refused noPattern 0 ≡ excerptAnswer (readLog log) out) × (out ≡ excerptLeaves (readLog log) out)
-    order-found e out = rw (of .whole .reads) (go (first-violation Queue own))
+    order-found e out = rw (of .whole .reads, all-returned returned) (go (first-violation Queue own))
       where
         go : (found : SomeViolation Queue own ⊎ NoViolation Queue own)
             → (Refused noPattern 0 ≡ excerptAnswerOf (of .whole .records) found out) × (out ≡ excerptLeavesOf (of .whole .records) found out)
@@ -101,13 +123,13 @@ module _ {log : List ℕ} {n m : ℕ} {table : List ℕ} (of : TableOf log n m t
       -- and the excerpt is made from them
       pub pattern-found : {out out' : List ℕ} {r : Output} → Writes log (λ records. projection records (take k list) (valuesOf (entriesOf table) (take k list))) out r out'
           → (r ≡ excerptAnswer (readLog log) out) × (out' ≡ excerptLeaves (readLog log) out)
-      pattern-found {out} {out'} {r} writes = rw (of .whole .reads) (go (first-violation Queue own))
+      pattern-found {out} {out'} {r} writes = rw (of .whole .reads, all-returned returned) (go (first-violation Queue own))
         where
           same : {number : ℕ} (listed : List ℕ) → FirstViolation Queue own number listed
               → projection (of .whole .records) (take k list) (valuesOf (entriesOf table) (take k list)) ≡ excerpted (of .whole .records) listed
           same listed first =
               rw (first-violation-one first pattern .1)
-              (ap (projection (of .whole .records) (take k list)) (values-agree m n table own (of .agree) (take k list) listed-known))
+              (ap (projection (of .whole .records) (take k list)) (values-agree m (n + 1) table own (of .agree) (take k list) listed-known))
 
           go : (found : SomeViolation Queue own ⊎ NoViolation Queue own)
               → (r ≡ excerptAnswerOf (of .whole .records) found out) × (out' ≡ excerptLeavesOf (of .whole .records) found out)

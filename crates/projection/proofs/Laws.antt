@@ -15,16 +15,16 @@ use Rattle.record.specs.Record.{encode}
 use Rattle.record.specs.declared.record.Record.{Record}
 use Rattle.buffer.specs.Buffer.{written}
 use Rattle.buffer.specs.Output.{writing}
-use Rattle.buffer.specs.declared.output.Output.the-variants.{Refused}
-use Rattle.reader.specs.Log.{maxLength, encodeAll, readable, readLog, encodeLog, operations}
+use Rattle.buffer.specs.declared.output.Output.the-variants.{Written, Refused}
+use Rattle.reader.specs.Log.{maxLength, encodeAll, readable, readLog, encodeLog, operations, hasPendingRemove}
 use Rattle.table.specs.Table.{isIn}
 use Rattle.reader.specs.Readable.{ReadableLog, Orderly}
 use Rattle.reader.proofs.Laws.{sizes-most, readable-log, readable-orderly, orderly-readable}
 use Rattle.history.specs.Object.{Queue}
-use Rattle.history.specs.History.{History, add, emptyRemove, noKind}
+use Rattle.history.specs.History.{History, add, emptyRemove, noKind, RemovesReturned}
 use Rattle.history.specs.Each.{Each}
 use Rattle.history.specs.Operations.{callIndex, historyOf, operationOf, operationAt}
-use Rattle.history.proofs.Laws.{history-lawful, history-returned}
+use Rattle.history.proofs.Laws.{history-lawful, history-returned, history-none-pending}
 use Rattle.history.proofs.Owning.{operation-own, operation-known}
 use Rattle.history.proofs.Queues.{returned-complete}
 use Rattle.history.specs.Linearization.{Linearization}
@@ -33,7 +33,7 @@ use Rattle.violations.specs.Verdict.{FirstViolation, SomeViolation, Verdict}
 use Rattle.violations.specs.Parts.{HasValue, Part, Kept}
 use Rattle.violations.proofs.Laws.{first-violation, first-violation-one, occurs-kinded, excluded, part-verdict}
 use Rattle.projection.specs.Projection.{keepRecords, valuesOf, keeps, projection, narrowed, excerpted}
-use Rattle.projection.specs.Outcome.{noPattern, excerptAnswerOf, excerptLeavesOf, excerptAnswer, excerptLeaves}
+use Rattle.projection.specs.Outcome.{removeUnreturned, noPattern, excerptAnswerOf, excerptLeavesOf, excerptAnswer, excerptLeaves}
 use Rattle.projection.proofs.Sizes.{log-length}
 use Rattle.projection.proofs.Selecting.{keep-picks, kept-together, keep-same}
 use Rattle.projection.proofs.Picking.{Picked}
@@ -91,6 +91,16 @@ projection-only {records} empties values orderly q h =
     let (marked, same) = picked-only _ _ _ _ _ q h in
     (sym (keeps-call records empties values (projection-part empties values orderly .to q) (projection-part empties values orderly .known q h)) ∙ marked, same)
 
+-- What has no kind is not kept, so every remove of the kept records has returned.
+pub projection-returned : {records : List Record} (empties values : List ℕ) → Orderly records → RemovesReturned (historyOf (projection records empties values))
+projection-returned {records} empties values orderly q h =
+    let part = projection-part empties values orderly in
+    omega (arith, part .kind q h, keeps-kinded (historyOf records) empties values (part .to q) (projection-only empties values orderly q h .0))
+
+-- "Narrowing .. keeps all records of operations on those values and nothing else": neither it nor an excerpt has an open remove.
+pub projection-none-pending : {records : List Record} (empties values : List ℕ) → Orderly records → hasPendingRemove (projection records empties values) ≡ false
+projection-none-pending empties values orderly = history-none-pending (orderly-log (projection-orderly empties values orderly)) (projection-returned empties values orderly)
+
 -- An excerpt keeps all operations that are listed, if they have a kind.
 pub excerpt-keeps : {records : List Record} (listed : List ℕ) (orderly : Orderly records)
     → Each (λ o. (o < historyOf records .count) × (add ≤ historyOf records .kind o)) listed
@@ -112,7 +122,7 @@ excerpt-verdict log records reads bytes {n} {listed} first =
     let part = projection-part listed values orderly in
     let keeps = excerpt-keeps listed orderly (occurs-kinded (first .occurs)) in (
       orderly-readable (excerpted records listed) kept,
-      λ m ys verdict. sym (part-verdict Queue part (history-lawful read) (history-lawful kept-read) (history-returned kept-read) first keeps verdict),
+      λ m ys verdict. sym (part-verdict Queue part (history-lawful read) (history-lawful kept-read) (projection-returned listed values orderly) first keeps verdict),
     )
 
 -- A log that is written out of a log is no longer than a log may be.
@@ -149,24 +159,41 @@ narrowed-alike log records reads values others same =
             let valued : HasValue h o = record { known = known; valued = omega (arith, history-lawful read .kinds o known) } in
             rw (ne-eqb _ _ n, ne-eqb _ _ k, same o valued) refl
 
+-- 32: "It refuses with 32 an excerpt of a log with an open remove, before 23", whatever the verdict: so it is answered, and nothing is written.
+pub excerpt-pending : (log : List ℕ) (records : List Record) → readLog log ≡ readable records → hasPendingRemove records ≡ true → (out : List ℕ)
+    → (excerptAnswer (readLog log) out ≡ Refused removeUnreturned 0) × (excerptLeaves (readLog log) out ≡ out)
+excerpt-pending log records reads pending out = rw (reads, pending) (refl, refl)
+
+-- So an excerpt is written of no log with an open remove.
+pub excerpt-written : (log : List ℕ) (records : List Record) → readLog log ≡ readable records → (out : List ℕ) {n : ℕ}
+    → excerptAnswer (readLog log) out ≡ Written n → hasPendingRemove records ≡ false
+excerpt-written log records reads out {n} e = by (hasPendingRemove records) refl
+  where
+    by : (b : Bool) → hasPendingRemove records ≡ b → b ≡ false
+    by false returned = refl
+    by true pending =
+        let z : Refused removeUnreturned 0 ≡ Written n = sym (excerpt-pending log records reads pending out .0) ∙ e in
+        let y : _≡_ {A = ℕ} 0 1 = cc in
+        absurd (omega arith)
+
 -- 23: "excerpt where the verdict is an order": so it is answered, and nothing is written.
-pub excerpt-of-order : (log : List ℕ) (records : List Record) → readLog log ≡ readable records → (order : List ℕ)
+pub excerpt-of-order : (log : List ℕ) (records : List Record) → readLog log ≡ readable records → hasPendingRemove records ≡ false → (order : List ℕ)
     → Linearization Queue (historyOf records) order → (out : List ℕ)
     → (excerptAnswer (readLog log) out ≡ Refused noPattern 0) × (excerptLeaves (readLog log) out ≡ out)
-excerpt-of-order log records reads order legal out = rw reads (go (first-violation Queue (historyOf records)))
+excerpt-of-order log records reads returned order legal out = rw (reads, returned) (go (first-violation Queue (historyOf records)))
   where
     go : (found : SomeViolation Queue (historyOf records) ⊎ NoViolation Queue (historyOf records))
         → (excerptAnswerOf records found out ≡ Refused noPattern 0) × (excerptLeavesOf records found out ≡ out)
     go (inl (n, listed, first)) =
         let read = readable-log log records reads in
-        absurd (excluded (history-lawful read) (returned-complete (history-returned read) legal) (first .occurs))
+        absurd (excluded (history-lawful read) (returned-complete (history-returned read returned) legal) (first .occurs))
     go (inr clean) = (refl, refl)
 
 -- With a pattern the excerpt of its operations is written, or 24 is answered.
-pub excerpt-of-pattern : (log : List ℕ) (records : List Record) → readLog log ≡ readable records → {n : ℕ} {listed : List ℕ}
+pub excerpt-of-pattern : (log : List ℕ) (records : List Record) → readLog log ≡ readable records → hasPendingRemove records ≡ false → {n : ℕ} {listed : List ℕ}
     → FirstViolation Queue (historyOf records) n listed → (out : List ℕ)
     → (excerptAnswer (readLog log) out ≡ writing (encodeLog (excerpted records listed)) out) × (excerptLeaves (readLog log) out ≡ written (encodeLog (excerpted records listed)) out)
-excerpt-of-pattern log records reads {n} {listed} first out = rw reads (go (first-violation Queue (historyOf records)))
+excerpt-of-pattern log records reads returned {n} {listed} first out = rw (reads, returned) (go (first-violation Queue (historyOf records)))
   where
     go : (found : SomeViolation Queue (historyOf records) ⊎ NoViolation Queue (historyOf records))
         → (excerptAnswerOf records found out ≡ writing (encodeLog (excerpted records listed)) out) × (excerptLeavesOf records found out ≡ written (encodeLog (excerpted records listed)) out)

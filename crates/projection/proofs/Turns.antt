@@ -8,10 +8,10 @@ use mathlib.Core.Bool.{Bool}
 use mathlib.Core.Logic.{_⊎_, inl, inr}
 use mathlib.Core.List.{List}
 use lib.ListN.{length}
-use Rattle.record.specs.declared.record.Event.the-variants.{CallAdd, CallRemove}
+use Rattle.record.specs.declared.record.Event.the-variants.{CallAdd}
 use Rattle.record.specs.declared.record.Record.{Record}
 use Rattle.reader.specs.Log.{isCall, leaves}
-use Rattle.reader.specs.Readable.{recordOf, asks, Next, Orderly}
+use Rattle.reader.specs.Readable.{recordOf, asks, Next, Unreturned, Orderly}
 use Rattle.reader.proofs.Laws.{follows}
 use Rattle.reader.proofs.Records.{precedes-law}
 use Rattle.history.proofs.Numbering.{next-is-return, next-of-one}
@@ -99,12 +99,28 @@ module _ {marked : ℕ → Bool} {records kept : List Record} (orderly : Orderly
           let e : k ≡ i = next-of-one kept k i j (next-picked p k j there (n .there) (a .next)) n in
           absurd (leaves-call (recordOf kept i .event) (ap (λ x. isCall (recordOf kept x .event)) (sym e) ∙ ap isCall (event-same p k there) ∙ a .is-call) l)
 
-  -- the rest is known of the sources
-  returned : (i : ℕ) → i < length kept → recordOf kept i .event ≡ CallRemove → (j : ℕ) × Next kept i j
-  returned i h e =
-      let (r, n) = orderly .returned (p .source i) (p .below i h) (sym (event-same p i h) ∙ e) in
-      let (j, same) = return-picked together p i r h (record { next = n; is-call = ap isCall (sym (event-same p i h) ∙ e) }) in
-      (j, next-picked p i j h (same .below) (rw (← (same .is)) at n))
+  -- the rest is known of the sources: a picked remove without return has none among all, since that would be picked
+  unreturned : (i : ℕ) → Unreturned kept i → Unreturned records (p .source i)
+  unreturned i u =
+      let e = sym (event-same p i (u .there)) ∙ u .removes in
+      record {
+        there = p .below i (u .there);
+        removes = e;
+        last = λ r n.
+            let (j, same) = return-picked together p i r (u .there) (record { next = n; is-call = ap isCall e }) in
+            u .last j (next-picked p i j (u .there) (same .below) (rw (← (same .is)) at n));
+      }
+
+  lone : (i j : ℕ) → Unreturned kept i → Unreturned kept j → i ≡ j
+  lone i j u v = by (decLt i j) (decLt j i)
+    where
+      same : p .source i ≡ p .source j
+      same = orderly .lone (p .source i) (p .source j) (unreturned i u) (unreturned j v)
+
+      by : Dec (i < j) → Dec (j < i) → i ≡ j
+      by (yes l) d = absurd (omega (arith, same, p .rises i j l (v .there)))
+      by (no l) (yes m) = absurd (omega (arith, same, p .rises j i m (u .there)))
+      by (no l) (no m) = omega arith
 
   ticks : (i j : ℕ) → i ≤ j → j < length kept → recordOf kept i .tick ≤ recordOf kept j .tick
   ticks i j l h = rw (p .same i (omega arith), p .same j h) (orderly .regular .ticks (p .source i) (p .source j) (by (decLt i j)) (p .below j h))
@@ -155,5 +171,5 @@ module _ {marked : ℕ → Bool} {records kept : List Record} (orderly : Orderly
       once = once;
     };
     small = λ i h. rw (p .same i h) (orderly .small (p .source i) (p .below i h));
-    returned = returned;
+    lone = lone;
   }

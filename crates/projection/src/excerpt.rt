@@ -1,10 +1,11 @@
 // The excerpt of a log: the records of the operations on the values of those that the first pattern lists, and of a listed empty remove. What
 // is right is said in specs/Outcome.antt, what the code keeps in specs/Listed.antt.
 ghost use mathlib.Core.Path.{_≡_};
-ghost use Prim.Native.Nat.{_≤_, _<_};
+ghost use Prim.Native.Nat.{_+_, _≤_, _<_};
 ghost use lib.ListN.{length};
 ghost use Rattle.reader.specs.Log.{maxRecords, readLog};
-ghost use Rattle.history.specs.Table.{TableOf};
+ghost use Rattle.history.specs.History.{RemovesReturned};
+ghost use Rattle.history.specs.Table.{tabled, TableOf};
 ghost use Rattle.projection.specs.Projection.{valuesOf};
 ghost use Rattle.projection.specs.Outcome.{excerptAnswer, excerptLeaves};
 ghost use Rattle.projection.specs.Marks.{entriesOf, KeptAre};
@@ -13,6 +14,7 @@ use crate::keep::Marks;
 use crate::keep::keep;
 use crate::write::write_kept;
 use buffer::output::Output;
+use fates::fates::pending_remove;
 use history::operations::EMPTY_REMOVE;
 use history::operations::NO_KIND;
 use history::operations::Operations;
@@ -20,11 +22,14 @@ use history::operations::TABLE;
 use history::operations::kind_of;
 use history::operations::tabulate;
 use history::operations::value_of;
-use judge::decide::decide;
+use judge::decide::decide_complete;
 use matching::values::Numbers;
 use patterns::find::ORDER;
 use reader::format::MAX_RECORDS;
 use reader::log::Checked;
+
+// The number of the refusal of an excerpt of a log with a remove that has not returned.
+const REMOVE_UNRETURNED: u32 = 32;
 
 // The number of the refusal of an excerpt where the verdict is an order.
 const NO_PATTERN: u32 = 23;
@@ -70,7 +75,7 @@ fn keep_listed(table: &Operations, count: usize, listed: &[u32], kept: &mut Mark
     keep(table, count, listed, &values[..n], kept);
 }
 
-// Writes the excerpt of a readable log, whose operations the table holds.
+// Writes the excerpt of a readable log in which every remove has returned, and whose operations the table holds.
 fn write_excerpt(
     log: &[u8],
     records: usize,
@@ -78,11 +83,12 @@ fn write_excerpt(
     count: usize,
     out: &mut [u8],
 ) -> Output
-    requires { ⌜ TableOf (now log) records count (now table) ⌝ }
+    requires { ⌜ TableOf (now log) records count (now table) × RemovesReturned (tabled count (records + 1) (now table)) ⌝ }
     ensures { λ r. ⌜ (r ≡ excerptAnswer (readLog (now (log .entry))) (now (out .entry))) × (now (out .exit) ≡ excerptLeaves (readLog (now (log .entry))) (now (out .entry))) ⌝ }
 {
+    let mut partner = [0u32; MAX_RECORDS];
     let mut list = [0u32; MAX_RECORDS];
-    let finding = decide(table, count, records, &mut list);
+    let finding = decide_complete(table, count, records + 1, &mut partner, &mut list);
     if finding.verdict == ORDER {
         return Output::Refused {
             number: NO_PATTERN,
@@ -105,6 +111,14 @@ pub fn excerpt(log: &[u8], out: &mut [u8]) -> Output
         Checked::Readable {
             records,
             operations,
-        } => write_excerpt(log, records, &table, operations, out),
+        } => {
+            if pending_remove(&table, operations) < operations {
+                return Output::Refused {
+                    number: REMOVE_UNRETURNED,
+                    index: 0,
+                };
+            }
+            write_excerpt(log, records, &table, operations, out)
+        }
     }
 }

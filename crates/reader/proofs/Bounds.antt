@@ -17,7 +17,7 @@ use Rattle.record.specs.declared.record.Event.the-variants.{CallAdd, CallRemove
 use Rattle.record.specs.declared.record.Record.{Record}
 use Rattle.record.specs.declared.record.Decoded.{Decoded}
 use Rattle.record.specs.declared.record.Decoded.the-variants.{Found, Malformed}
-use Rattle.reader.specs.Log.{logVersion, headerLength, maxRecords, countField, pendingKind, returnedAt, addedValues, lastTick, Reading, readable, refused, eventFault, fault, afterDecode, unlessFault, scan, readPartial, pendingRemove, complete, readLog}
+use Rattle.reader.specs.Log.{logVersion, headerLength, maxRecords, countField, pendingKind, returnedAt, addedValues, lastTick, Reading, readable, refused, eventFault, fault, afterDecode, unlessFault, scan, readPartial, secondRemove, complete, readLog}
 use Rattle.table.specs.Table.{isIn}
 use Rattle.reader.specs.Readable.{Within}
 
@@ -87,10 +87,10 @@ partial-within log = go (ltb (length log) headerLength) (eqb (getD log 0 0) logV
     go false true false t = scan-within log (countField log) headerLength [] (omega (arith, ltb-false maxRecords (countField log) t))
 
 complete-within : (reading : Reading) → Within reading → Within (complete reading)
-complete-within (readable records) w = go (ltb (pendingRemove records) (length records)) refl
+complete-within (readable records) w = go (ltb (secondRemove records) (length records)) refl
   where
-    go : (b : Bool) → ltb (pendingRemove records) (length records) ≡ b → Within (if b then refused 10 (pendingRemove records) else readable records)
-    go true t = (lit≤ tt, lit≤ tt, omega (arith, ltb-true (pendingRemove records) (length records) t))
+    go : (b : Bool) → ltb (secondRemove records) (length records) ≡ b → Within (if b then refused 10 (secondRemove records) else readable records)
+    go true t = (lit≤ tt, lit≤ tt, omega (arith, ltb-true (secondRemove records) (length records) t))
     go false t = w
 complete-within (refused number index) w = w
 

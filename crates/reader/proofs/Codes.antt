@@ -87,21 +87,21 @@ returned-code (more {r} {past} rise rest) client tick l idle = go (eqb (r .tick)
     go false t false c idle ih =
         returned-never (more {r = r} rise rest) client tick (omega (arith, eqb-false (r .tick) tick t)) ∙ sym (le-ltb (suc (length past)) (codeOf past client / 4) (omega (arith, code-few past client)))
 
--- the lowest index of a pending remove among the first codes: among none, and among one more, which has a lower one or has not
-pub least-none : (codes : List ℕ) (none : ℕ) → LeastRemove codes 0 none none
-least-none codes none = record { within = omega arith; least = λ p h. absurd (omega arith); there = λ h. absurd (omega arith) }
+-- the lowest index of a pending remove, from an index on, among the first codes: among none, and among one more, which has a lower one or has not
+pub least-none : (codes : List ℕ) (from none : ℕ) → LeastRemove codes 0 from none none
+least-none codes from none = record { within = omega arith; least = λ p h. absurd (omega arith); there = λ h. absurd (omega arith) }
 
-module _ {codes : List ℕ} {i none least : ℕ} (found : LeastRemove codes i none least) where
-  pub least-same : (getD codes i 0 % 4 ≡ 2 → least < getD codes i 0 / 4) → LeastRemove codes (i + 1) none least
-  least-same not-lower = record { within = found .within; least = λ p h e. by p h e (decLt p i); there = λ h. let (p, b, e) = found .there h in (p, omega arith, e) }
+module _ {codes : List ℕ} {i from none least : ℕ} (found : LeastRemove codes i from none least) where
+  pub least-same : (getD codes i 0 % 4 ≡ 2 → from < getD codes i 0 / 4 → least < getD codes i 0 / 4) → LeastRemove codes (i + 1) from none least
+  least-same not-lower = record { within = found .within; least = λ p h e. by p h e (decLt p i); there = λ h. let (l, (p, b, e)) = found .there h in (l, (p, omega arith, e)) }
     where
-      by : (p : ℕ) → p < i + 1 → getD codes p 0 % 4 ≡ 2 → Dec (p < i) → least < getD codes p 0 / 4
+      by : (p : ℕ) → p < i + 1 → getD codes p 0 % 4 ≡ 2 → Dec (p < i) → from < getD codes p 0 / 4 → least < getD codes p 0 / 4
       by p h e (yes l) = found .least p l e
       by p h e (no n) = let same : p ≡ i = omega arith in rw same (not-lower (rw same at e))
 
-  pub least-lower : getD codes i 0 % 4 ≡ 2 → 4 ≤ getD codes i 0 → getD codes i 0 / 4 - 1 < least → LeastRemove codes (i + 1) none (getD codes i 0 / 4 - 1)
-  least-lower pending some lower = record { within = omega (arith, found .within); least = λ p h e. by p h e (decLt p i); there = λ h. (i, omega arith, omega arith) }
+  pub least-lower : getD codes i 0 % 4 ≡ 2 → 4 ≤ getD codes i 0 → from ≤ getD codes i 0 / 4 - 1 → getD codes i 0 / 4 - 1 < least → LeastRemove codes (i + 1) from none (getD codes i 0 / 4 - 1)
+  least-lower pending some behind lower = record { within = omega (arith, found .within); least = λ p h e. by p h e (decLt p i); there = λ h. (behind, (i, omega arith, omega arith)) }
     where
-      by : (p : ℕ) → p < i + 1 → getD codes p 0 % 4 ≡ 2 → Dec (p < i) → getD codes i 0 / 4 - 1 < getD codes p 0 / 4
-      by p h e (yes l) = omega (arith, found .least p l e)
-      by p h e (no n) = let same : p ≡ i = omega arith in rw same (omega arith)
+      by : (p : ℕ) → p < i + 1 → getD codes p 0 % 4 ≡ 2 → Dec (p < i) → from < getD codes p 0 / 4 → getD codes i 0 / 4 - 1 < getD codes p 0 / 4
+      by p h e (yes l) m = omega (arith, found .least p l e m)
+      by p h e (no n) m = let same : p ≡ i = omega arith in rw same (omega arith)

@@ -45,6 +45,13 @@ asks-remove CallRemove a = absurd (omega arith)
 asks-remove ReturnAdd a = absurd (omega arith)
 asks-remove (ReturnRemove x) a = (x, refl)
 
+-- and only the call of a remove leaves one pending
+pub leaves-remove : (e : Event) → leaves e ≡ 2 → e ≡ CallRemove
+leaves-remove (CallAdd v) l = absurd (omega arith)
+leaves-remove CallRemove l = refl
+leaves-remove ReturnAdd l = absurd (omega arith)
+leaves-remove (ReturnRemove x) l = absurd (omega arith)
+
 -- a record makes at most one call
 pub isCall-small : (e : Event) → isCall e ≤ 1
 isCall-small (CallAdd v) = omega arith

@@ -18,7 +18,7 @@ use Rattle.record.specs.declared.record.Record.{Record}
 use Rattle.table.specs.Table.{isIn}
 use Rattle.map.specs.Map.{Latest, Linked}
 use Rattle.map.proofs.Laws.{key-new, key-old}
-use Rattle.reader.specs.Log.{maxRecords, leaves, pendingKind, returnedAt, valueOf, addedValues, lastTick, operations, pendingRemove, eventFault, fault}
+use Rattle.reader.specs.Log.{maxRecords, leaves, pendingKind, returnedAt, valueOf, addedValues, lastTick, operations, pendingFrom, eventFault, fault}
 use Rattle.reader.specs.Readable.{recordOf}
 use Rattle.reader.specs.Search.{None}
 use Rattle.reader.specs.Tables.{codeOf, startOf, Tables, New, Room, ClientsKept, AddedKept, first, more, Kept, Stands, faultIn, Noted, LeastRemove}
@@ -28,7 +28,7 @@ use Rattle.reader.proofs.Records.{code-latest, code-record}
 use Rattle.reader.proofs.Codes.{kind-code, returned-code}
 use Rattle.reader.proofs.Events.{call-or-return}
 use Rattle.reader.proofs.Faults.{no-fault}
-use Rattle.reader.proofs.Pending.{pending-within, pending-lowest, pending-open}
+use Rattle.reader.proofs.Pending.{Open, pending-from-within, pending-from-lowest, pending-from-open}
 use Rattle.reader.proofs.Search.{Lowest, lowest, decEq}
 
 -- the entry that is found has the client's code, and one that is not in use has 0
@@ -280,40 +280,36 @@ module _ {past : List Record} (r : Record) where
         → Kept (r ∷ past) (record { at = next; tick = r .tick; start = s .start; clients = met; added = p .added; operations = operations' }) t'
     keeps-values calls none values chains = keeps calls (rw (values, chains) (added-none (k .added) none))
 
--- the lowest index of a remove that the codes have as pending is that of the earliest one
-pub least-found : {past : List Record} {count least : ℕ} {t : Tables} → ClientsKept past count t → LeastRemove (t .codes) count (length past) least → pendingRemove (reverse past) ≡ least
-least-found {past} {count} {least} {t} k found = omega (arith, upper (decLt least (length past)), lower (decLt (pendingRemove records) (length records)))
+-- the lowest index, from an index on, of a remove that the codes have as pending is that of the earliest one
+pub least-found : {past : List Record} {count from least : ℕ} {t : Tables} → ClientsKept past count t → from ≤ length past → LeastRemove (t .codes) count from (length past) least
+    → pendingFrom from (reverse past) ≡ least
+least-found {past} {count} {from} {least} {t} k below found = omega (arith, upper (decLt least (length past)), lower (decLt (pendingFrom from (reverse past)) (length (reverse past))))
   where
-    records : List Record
-    records = reverse past
-
-    upper : Dec (least < length past) → pendingRemove (reverse past) ≤ least
+    upper : Dec (least < length past) → pendingFrom from (reverse past) ≤ least
     upper (yes l) =
-        let (p, h, e) = found .there l in
+        let (behind, (p, h, e)) = found .there l in
         let code : codeOf past (getD (t .clients) p 0) ≡ (least + 1) * 4 + 2 = sym (k .held p h) ∙ e in
         let c = code-record past (getD (t .clients) p 0) (λ z. omega arith) in
-        let small = call-or-return (recordOf records (c .at) .event) in
+        let small = call-or-return (recordOf (reverse past) (c .at) .event) in
         let at : c .at ≡ least = omega (arith, c .code) in
-        rw at at (pending-lowest (reverse past) (c .at) (omega (arith, c .below, length-reverse past)) (omega (arith, c .code)) (c .last))
-    upper (no n) = omega (arith, pending-within (reverse past), length-reverse past, found .within)
+        let is : Open (reverse past) (c .at) = record { remove = omega (arith, c .code); last = c .last } in
+        omega (arith, pending-from-lowest from (reverse past) (c .at) (omega arith) (omega (arith, c .below, length-reverse past)) is)
+    upper (no n) = omega (arith, pending-from-within from (reverse past) (omega (arith, length-reverse past)), length-reverse past, found .within)
 
-    lower : Dec (pendingRemove (reverse past) < length (reverse past)) → least ≤ pendingRemove (reverse past)
+    lower : Dec (pendingFrom from (reverse past) < length (reverse past)) → least ≤ pendingFrom from (reverse past)
     lower (yes l) = go (lowest (λ p. getD (t .clients) p 0 ≡ client) (λ p. decEq (getD (t .clients) p 0) client) count)
       where
-        i : ℕ
-        i = pendingRemove (reverse past)
-
         client : ℕ
-        client = recordOf (reverse past) (pendingRemove (reverse past)) .client
+        client = recordOf (reverse past) (pendingFrom from (reverse past)) .client
 
-        code : codeOf past (recordOf (reverse past) (pendingRemove (reverse past)) .client) ≡ (pendingRemove (reverse past) + 1) * 4 + 2
+        code : codeOf past (recordOf (reverse past) (pendingFrom from (reverse past)) .client) ≡ (pendingFrom from (reverse past) + 1) * 4 + 2
         code =
-            let is = pending-open (reverse past) l in
-            code-latest past (pendingRemove (reverse past)) (omega (arith, l, length-reverse past)) (is .last) ∙ ap (λ kind. (pendingRemove (reverse past) + 1) * 4 + kind) (is .remove)
+            let is = pending-from-open from (reverse past) l in
+            code-latest past (pendingFrom from (reverse past)) (omega (arith, l, length-reverse past)) (is .last) ∙ ap (λ kind. (pendingFrom from (reverse past) + 1) * 4 + kind) (is .remove)
 
-        go : Lowest (λ p. getD (t .clients) p 0 ≡ client) count ⊎ None (λ p. getD (t .clients) p 0 ≡ client) count → least ≤ pendingRemove (reverse past)
+        go : Lowest (λ p. getD (t .clients) p 0 ≡ client) count ⊎ None (λ p. getD (t .clients) p 0 ≡ client) count → least ≤ pendingFrom from (reverse past)
         go (inl e) =
-            let is : getD (t .codes) (e .at) 0 ≡ (pendingRemove (reverse past) + 1) * 4 + 2 = k .held (e .at) (e .below) ∙ ap (codeOf past) (e .holds) ∙ code in
-            omega (arith, found .least (e .at) (e .below) (omega arith))
+            let is : getD (t .codes) (e .at) 0 ≡ (pendingFrom from (reverse past) + 1) * 4 + 2 = k .held (e .at) (e .below) ∙ ap (codeOf past) (e .holds) ∙ code in
+            omega (arith, found .least (e .at) (e .below) (omega arith) (omega arith))
         go (inr none) = absurd (omega (arith, code, k .others client none))
     lower (no n) = omega (arith, found .within, length-reverse past)

@@ -10,7 +10,7 @@ use lib.Dec.{ltb}
 use borrow.Author.Tests.{ltb-false}
 use Rattle.record.specs.Choice.{if_then_else_}
 use Rattle.record.specs.declared.record.Record.{Record}
-use Rattle.reader.specs.Log.{maxRecords, encodeLog, Reading, readable, refused, pendingRemove, readPartial, complete, readLog, operations, checked}
+use Rattle.reader.specs.Log.{maxRecords, encodeLog, Reading, readable, refused, secondRemove, readPartial, complete, readLog, operations, checked}
 use Rattle.reader.specs.Readable.{Within, recordOf, asks, Next, Regular, PartialLog, ReadableLog, Writable}
 use Rattle.reader.specs.declared.log.Checked.the-variants.{Readable, Refused}
 use Rattle.reader.proofs.Bounds.{partial-within, log-within}
@@ -18,12 +18,14 @@ use Rattle.reader.proofs.Keeping.{operations-few}
 use Rattle.reader.proofs.Scanning.{operations-append}
 use Rattle.reader.proofs.Encoding.{log-encodes}
 use Rattle.reader.proofs.Bytes.{count-law, few-law, stands-law, fills-law, short-law, bytes-law, writable-law}
-use Rattle.reader.proofs.Records.{ticks-law, first-law, next-law, rises-law, once-law, follows-law, precedes-law, returned-law}
+use Rattle.reader.proofs.Records.{ticks-law, first-law, next-law, rises-law, once-law, follows-law, precedes-law, lone-law}
 use Rattle.reader.proofs.Run.{Admits, none, Read, reads, run-admits}
 -- The records of a readable log of bytes are orderly, and a log of orderly records is read as them.
 pub use Rattle.reader.proofs.Orderly.{readable-orderly, orderly-readable}
 -- Bytes that are handed in as one record behind a log are a record's that can be written there exactly if nothing is wrong with them.
 pub use Rattle.reader.proofs.Feeding.{RecordBehind, faultless-short, faultless-is-record, record-is-faultless, writable-more}
+-- The test for an open remove finds one exactly if there is one.
+pub use Rattle.reader.proofs.Records.{none-pending, some-pending}
 -- the bytes of records with one more behind them, and how many records take at most
 pub use Rattle.reader.proofs.Bytes.{encode-snoc, sizes-most}
 
@@ -57,14 +59,14 @@ read-partial read = record {
 pub partial-log : (log : List ℕ) (records : List Record) → readPartial log ≡ readable records → PartialLog log records
 partial-log log records e = read-partial (reads log records e)
 
--- what `complete` lets through it leaves as it is, and no remove is pending
-completed : (reading : Reading) (records : List Record) → complete reading ≡ readable records → (reading ≡ readable records) × (length records ≤ pendingRemove records)
-completed (readable rs) records e = go (ltb (pendingRemove rs) (length rs)) refl e
+-- what `complete` lets through it leaves as it is, and no second remove is pending
+completed : (reading : Reading) (records : List Record) → complete reading ≡ readable records → (reading ≡ readable records) × (length records ≤ secondRemove records)
+completed (readable rs) records e = go (ltb (secondRemove rs) (length rs)) refl e
   where
-    go : (b : Bool) → ltb (pendingRemove rs) (length rs) ≡ b → (if b then refused 10 (pendingRemove rs) else readable rs) ≡ readable records
-        → (readable rs ≡ readable records) × (length records ≤ pendingRemove records)
+    go : (b : Bool) → ltb (secondRemove rs) (length rs) ≡ b → (if b then refused 10 (secondRemove rs) else readable rs) ≡ readable records
+        → (readable rs ≡ readable records) × (length records ≤ secondRemove records)
     go true t e = let z : _≡_ {A = ℕ} 0 1 = cc in absurd (omega arith)
-    go false t e = let same : rs ≡ records = cc in (e, rw same at (ltb-false (pendingRemove rs) (length rs) t))
+    go false t e = let same : rs ≡ records = cc in (e, rw same at (ltb-false (secondRemove rs) (length rs) t))
 completed (refused number index) records e = let z : _≡_ {A = ℕ} 0 1 = cc in absurd (omega arith)
 
 -- a readable log
@@ -72,7 +74,7 @@ pub readable-log : (log : List ℕ) (records : List Record) → readLog log ≡ 
 readable-log log records e =
     let whole = completed (readPartial log) records e in
     let read : Read log records = reads log records (whole .0) in
-    record { partial = read-partial read; returned = returned-law records (whole .1) }
+    record { partial = read-partial read; lone = lone-law records (whole .1) }
 
 -- a readable log is one that is readable but for 10
 pub readable-is-partial : (log : List ℕ) (records : List Record) → readLog log ≡ readable records → readPartial log ≡ readable records

@@ -1,7 +1,6 @@
 -- Records are those of a readable log exactly if they are orderly: those of a readable log are, and a log of orderly records is read as them.
 use Prim.Native.Nat.{ℕ, zero, suc, _≤_, _<_}
 use native.Mathlib.Omega.{arith}
-use native.Mathlib.Decide.{decLt}
 use mathlib.Core.Path.{_≡_, refl, sym, ap, _∙_}
 use mathlib.Core.Bool.{false}
 use mathlib.Core.Logic.{_⊎_, inl, inr}
@@ -11,15 +10,14 @@ use lib.Seq.{getD-at}
 use borrow.Author.Tests.{le-ltb, ne-eqb}
 use Rattle.record.specs.Number.{Bytes}
 use Rattle.record.specs.Record.{Small}
-use Rattle.record.specs.declared.record.Event.{Event}
-use Rattle.record.specs.declared.record.Event.the-variants.{CallAdd, CallRemove, ReturnAdd, ReturnRemove}
+use Rattle.record.specs.declared.record.Event.the-variants.{CallAdd}
 use Rattle.record.specs.declared.record.Record.{Record}
-use Rattle.reader.specs.Log.{isCall, leaves, encodeLog, readable, pendingKind, returnedAt, pendingRemove, addedValues, lastTick, fault, complete, readLog}
+use Rattle.reader.specs.Log.{isCall, leaves, encodeLog, readable, pendingKind, returnedAt, secondRemove, addedValues, lastTick, fault, complete, readLog}
 use Rattle.table.specs.Table.{isIn}
 use Rattle.reader.specs.Readable.{recordOf, asks, Next, Writable, none, more, ReadableLog, Orderly}
 use Rattle.reader.proofs.Events.{turns-change}
-use Rattle.reader.proofs.Pending.{Last, pending-within, pending-open}
-use Rattle.reader.proofs.Records.{nth, last-tick, kind-latest, kind-absent, returned-latest, returned-absent, value-absent, precedes-law}
+use Rattle.reader.proofs.Pending.{Last}
+use Rattle.reader.proofs.Records.{nth, last-tick, kind-latest, kind-absent, returned-latest, returned-absent, value-absent, precedes-law, second-law}
 use Rattle.reader.proofs.Encoding.{log-encodes}
 use Rattle.reader.proofs.Faults.{fault-none}
 
@@ -34,7 +32,7 @@ pub readable-orderly : {log : List ℕ} {records : List Record} → ReadableLog 
 readable-orderly l bytes = record {
   regular = l .partial .regular;
   small = writable-small (l .partial .writable bytes);
-  returned = l .returned;
+  lone = l .lone;
 }
 
 -- a record among orderly ones, behind those of the past
@@ -110,26 +108,8 @@ orderly-writable past [] orderly = none
 orderly-writable past (r ∷ rest) orderly =
     more (fits past rest r orderly) (fault-free past rest r orderly) (orderly-writable (r ∷ past) rest (rw (reverse-cons r past, append-assoc (reverse past) (r ∷ []) rest) orderly))
 
--- only the call of a remove leaves a remove pending
-leaves-remove : (e : Event) → leaves e ≡ 2 → e ≡ CallRemove
-leaves-remove (CallAdd v) l = absurd (omega arith)
-leaves-remove CallRemove l = refl
-leaves-remove ReturnAdd l = absurd (omega arith)
-leaves-remove (ReturnRemove x) l = absurd (omega arith)
-
--- so the test for 10 finds none
-none-pending : (records : List Record) → Orderly records → pendingRemove records ≡ length records
-none-pending records orderly = go (decLt (pendingRemove records) (length records))
-  where
-    go : Dec (pendingRemove records < length records) → pendingRemove records ≡ length records
-    go (yes l) =
-        let open-remove = pending-open records l in
-        let (j, next) = orderly .returned (pendingRemove records) l (leaves-remove _ (open-remove .remove)) in
-        absurd (open-remove .last j (next .later) (next .there) (next .same))
-    go (no l) = omega (arith, pending-within records)
-
 -- a log of orderly records is read as them
 pub orderly-readable : (records : List Record) → Orderly records → readLog (encodeLog records) ≡ readable records
 orderly-readable records orderly =
     ap complete (log-encodes records (orderly .regular .few) (orderly-writable [] records orderly))
-    ∙ rw (none-pending records orderly, le-ltb (length records) (length records) (omega arith)) refl
+    ∙ rw (le-ltb (secondRemove records) (length records) (second-law records (orderly .lone))) refl

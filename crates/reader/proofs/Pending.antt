@@ -1,10 +1,11 @@
--- Removes without return: the earliest one is found exactly if there is one.
-use Prim.Native.Nat.{ℕ, zero, suc, _≤_, _<_}
+-- Removes without return: the earliest one, from any index on, is found exactly if there is one.
+use Prim.Native.Nat.{ℕ, zero, suc, _+_, _-_, _≤_, _<_}
 use native.Mathlib.Omega.{arith}
 use mathlib.Core.Path.{_≡_, refl, sym, _∙_}
 use mathlib.Core.Bool.{Bool, true, false, not}
 use mathlib.Core.List.{List, [], _∷_, map}
-use lib.ListN.{length, getD, length-map, List·getD-map}
+use lib.ListN.{length, getD, drop, length-map, length-drop, List·getD-map}
+use lib.Seq.{getD-drop}
 use lib.Dec.{eqb}
 use borrow.Author.Tests.{eq-eqb, eqb-true}
 use Rattle.record.specs.Choice.{if_then_else_}
@@ -12,7 +13,7 @@ use Rattle.record.specs.declared.record.Event.the-variants.{CallRemove}
 use Rattle.record.specs.declared.record.Record.{Record}
 use Rattle.table.specs.Table.{isIn}
 use Rattle.table.proofs.Lists.{isIn-at, isIn-nowhere}
-use Rattle.reader.specs.Log.{leaves, clientsOf, pendingRemove}
+use Rattle.reader.specs.Log.{leaves, clientsOf, pendingRemove, pendingFrom}
 use Rattle.reader.specs.Readable.{recordOf}
 
 -- the record with an index is the latest one of its client
@@ -83,3 +84,35 @@ pending-open (r ∷ records) h = go (eqb (leaves (r .event)) 2) refl (isIn (r .c
     go false s b t h ih = later ih h
     go true s true t h ih = later ih h
     go true s false t h ih = own (eqb-true _ _ s) t
+
+-- what is dropped in front shifts the indices
+dropped : (from : ℕ) (records : List Record) (j : ℕ) → recordOf (drop from records) j ≡ recordOf records (from + j)
+dropped from records j = getD-drop from records j (record { client = 0; tick = 0; event = CallRemove })
+
+module _ (from : ℕ) (records : List Record) where
+  -- the open removes from an index on are those of the records there
+  open-dropped : (j : ℕ) → Open (drop from records) j → Open records (from + j)
+  open-dropped j is = record {
+    remove = rw (dropped from records j) at (is .remove);
+    last = λ k l h q.
+        let shift : from + (k - from) ≡ k = omega arith in
+        is .last (k - from) (omega arith) (omega (arith, length-drop from records)) (rw (dropped from records (k - from), dropped from records j, shift) q);
+  }
+
+  dropped-open : (j : ℕ) → Open records (from + j) → Open (drop from records) j
+  dropped-open j is = record {
+    remove = rw (dropped from records j) (is .remove);
+    last = λ k l h q. is .last (from + k) (omega arith) (omega (arith, length-drop from records)) (rw (dropped from records k, dropped from records j) at q);
+  }
+
+  -- so the laws of the earliest one hold from any index on
+  pub pending-from-within : from ≤ length records → pendingFrom from records ≤ length records
+  pending-from-within h = omega (arith, pending-within (drop from records), length-drop from records)
+
+  pub pending-from-lowest : (i : ℕ) → from ≤ i → i < length records → Open records i → pendingFrom from records ≤ i
+  pending-from-lowest i l h is =
+      let there : Open (drop from records) (i - from) = dropped-open (i - from) (rw (let shift : from + (i - from) ≡ i = omega arith in shift) is) in
+      omega (arith, pending-lowest (drop from records) (i - from) (omega (arith, length-drop from records)) (there .remove) (there .last))
+
+  pub pending-from-open : pendingFrom from records < length records → Open records (pendingFrom from records)
+  pending-from-open h = open-dropped (pendingRemove (drop from records)) (pending-open (drop from records) (omega (arith, length-drop from records)))

@@ -10,17 +10,17 @@ use mathlib.Core.List.{List, [], _∷_, _++_, reverse, reverse-cons}
 use lib.ListN.{length, length-reverse, List·getD-append}
 use lib.Seq.{getD-append-seam}
 use lib.Dec.{eqb}
-use borrow.Author.Tests.{eq-eqb, ne-eqb, eqb-false}
+use borrow.Author.Tests.{eq-eqb, ne-eqb, eqb-false, ltb-true, ltb-false}
 use Rattle.record.specs.declared.record.Event.{Event}
 use Rattle.record.specs.declared.record.Event.the-variants.{CallAdd, CallRemove, ReturnAdd, ReturnRemove}
 use Rattle.record.specs.declared.record.Record.{Record}
-use Rattle.reader.specs.Log.{isCall, leaves, pendingKind, returnedAt, valueOf, addedValues, lastTick, pendingRemove, fault}
+use Rattle.reader.specs.Log.{isCall, leaves, pendingKind, returnedAt, valueOf, addedValues, lastTick, pendingRemove, secondRemove, hasPendingRemove, fault}
 use Rattle.table.specs.Table.{isIn}
-use Rattle.reader.specs.Readable.{recordOf, asks, Next}
+use Rattle.reader.specs.Readable.{recordOf, asks, Next, Unreturned}
 use Rattle.reader.specs.Tables.{codeOf}
 use Rattle.reader.proofs.Codes.{kind-code, returned-own, returned-other}
-use Rattle.reader.proofs.Events.{call-or-return}
-use Rattle.reader.proofs.Pending.{Last, pending-lowest}
+use Rattle.reader.proofs.Events.{call-or-return, leaves-remove}
+use Rattle.reader.proofs.Pending.{Last, Open, pending-lowest, pending-open, pending-from-lowest, pending-from-open}
 use Rattle.reader.proofs.Faults.{no-fault}
 use Rattle.table.proofs.Lists.{isIn-append, isIn-last}
 use Rattle.reader.proofs.Run.{Admits, none, more}
@@ -269,11 +269,48 @@ precedes-law records j h = go (highest (λ k. recordOf records k .client ≡ rec
     go (inl s) = inl (s .at, record { later = s .below; there = h; same = sym (s .holds); between = λ k a b q. s .none-higher k a b (q ∙ s .holds) })
     go (inr first) = inr first
 
--- without a pending remove, the call of a remove has a next record of its client
-pub returned-law : (records : List Record) → length records ≤ pendingRemove records → (i : ℕ) → i < length records → recordOf records i .event ≡ CallRemove
-    → (j : ℕ) × Next records i j
-returned-law records all-returned i h e = go (follows-law records i)
+-- a remove without return is one whose client has no later record
+unreturned-open : {records : List Record} {i : ℕ} → Unreturned records i → Open records i
+unreturned-open {records} {i} u = record { remove = ap leaves (u .removes); last = go (follows-law records i) }
   where
-    go : ((j : ℕ) × Next records i j) ⊎ Last records i → (j : ℕ) × Next records i j
-    go (inl next) = next
-    go (inr last) = absurd (omega (arith, pending-lowest records i h (ap leaves e) last))
+    go : ((j : ℕ) × Next records i j) ⊎ Last records i → Last records i
+    go (inl (j, next)) = absurd (u .last j next)
+    go (inr last) = last
+
+open-unreturned : {records : List Record} {i : ℕ} → i < length records → Open records i → Unreturned records i
+open-unreturned h is = record { there = h; removes = leaves-remove _ (is .remove); last = λ j next. is .last j (next .later) (next .there) (next .same) }
+
+-- the test for an open remove finds one exactly if there is one
+pub none-pending : (records : List Record) → hasPendingRemove records ≡ false → (i : ℕ) → Unreturned records i → ⊥
+none-pending records e i u =
+    let is = unreturned-open u in
+    omega (arith, ltb-false (pendingRemove records) (length records) e, pending-lowest records i (u .there) (is .remove) (is .last), u .there)
+
+pub some-pending : (records : List Record) → hasPendingRemove records ≡ true → (i : ℕ) × Unreturned records i
+some-pending records e = let l = ltb-true (pendingRemove records) (length records) e in (pendingRemove records, open-unreturned l (pending-open records l))
+
+-- and the test for 10 finds none exactly if two removes without return are one
+pub lone-law : (records : List Record) → length records ≤ secondRemove records → (i j : ℕ) → Unreturned records i → Unreturned records j → i ≡ j
+lone-law records few i j u v = go (decLt i j) (decLt j i)
+  where
+    not-two : {i j : ℕ} → i < j → Unreturned records i → Unreturned records j → ⊥
+    not-two {i} {j} l u v =
+        let is = unreturned-open u in
+        let first : pendingRemove records ≤ i = pending-lowest records i (u .there) (is .remove) (is .last) in
+        omega (arith, pending-from-lowest (suc (pendingRemove records)) records j (omega arith) (v .there) (unreturned-open v), v .there)
+
+    go : Dec (i < j) → Dec (j < i) → i ≡ j
+    go (yes l) d = absurd (not-two l u v)
+    go (no l) (yes m) = absurd (not-two m v u)
+    go (no l) (no m) = omega arith
+
+pub second-law : (records : List Record) → ((i j : ℕ) → Unreturned records i → Unreturned records j → i ≡ j) → length records ≤ secondRemove records
+second-law records lone = go (decLt (secondRemove records) (length records))
+  where
+    go : Dec (secondRemove records < length records) → length records ≤ secondRemove records
+    go (yes l) =
+        let h : pendingRemove records < length records = omega arith in
+        let first = open-unreturned h (pending-open records h) in
+        let second = open-unreturned l (pending-from-open (suc (pendingRemove records)) records l) in
+        absurd (omega (arith, lone (pendingRemove records) (secondRemove records) first second))
+    go (no l) = omega arith

@@ -1,9 +1,10 @@
 -- The steps of a scan.
 use Prim.Native.Nat.{ℕ, zero, suc, _+_, _-_, _≤_, _<_}
 use native.Mathlib.Omega.{arith}
+use native.Mathlib.Numerals.{add-one}
 use mathlib.Core.Path.{_≡_, refl, sym, ap, _∙_}
 use mathlib.Core.List.{List, [], _∷_, _++_, reverse, reverse-cons, reverse-reverse}
-use lib.ListN.{length, getD, length-reverse, length-replicate}
+use lib.ListN.{length, getD, drop, length-reverse, length-replicate, length-drop}
 use lib.Dec.{ltb, eqb}
 use mathlib.Core.Bool.{Bool, true, false, not}
 use Rattle.record.specs.Choice.{if_then_else_}
@@ -11,7 +12,7 @@ use borrow.Author.Tests.{lt-ltb, le-ltb, lt-leb, le-leb, eq-eqb, ne-eqb, ltb-fal
 use Rattle.record.specs.Record.{decodeAt}
 use Rattle.record.specs.declared.record.Record.{Record}
 use Rattle.record.specs.declared.record.Decoded.the-variants.{Found, Malformed}
-use Rattle.reader.specs.Log.{Reading, readable, refused, logVersion, headerLength, maxRecords, countField, fault, scan, readPartial, operations, pendingRemove, complete, checked}
+use Rattle.reader.specs.Log.{Reading, readable, refused, logVersion, headerLength, maxRecords, countField, fault, scan, readPartial, operations, pendingRemove, secondRemove, complete, checked}
 use Rattle.reader.specs.Tables.{Tables, tables, New, faultIn, Room, Kept, Stands, Coded, LeastRemove, Admitted, Goes, Stepped, AllKept, Passed, through, stopped, FaultBehind, headerOf, surveyed}
 use Rattle.table.specs.Table.{Fits as InUse}
 use Rattle.table.proofs.Lists.{zeros}
@@ -31,6 +32,7 @@ use Rattle.reader.specs.declared.header.Header.the-variants.{Count, Wron
 use Rattle.reader.specs.declared.log.Checked.{Checked}
 use Rattle.reader.specs.declared.log.Checked.the-variants.{Readable, Refused}
 use Rattle.reader.proofs.Keeping.{fault-found, has-room, keeps-none, least-found}
+use Rattle.reader.proofs.Pending.{pending-within}
 
 pub operations-append : (rs ss : List Record) → operations (rs ++ ss) ≡ operations rs + operations ss
 unfolding operations
@@ -173,11 +175,23 @@ module _ {log : List ℕ} {count : ℕ} {p : Progress} {t : Tables} (all : AllKe
   pub all-have-room : count < maxRecords → Room p t
   all-have-room h = has-room (all .kept) (omega (arith, all .counted))
 
-  pub all-surveyed : {least : ℕ} → LeastRemove (t .codes) (p .clients) count least → Whole count (p .operations) least ≡ surveyed (scan log count headerLength [])
-  all-surveyed {least} found =
+  -- the second pending remove: there is none if there is no first, and else it is the earliest one after that
+  surveyed-with : {second : ℕ} → secondRemove (reverse (all .past)) ≡ second → Whole count (p .operations) second ≡ surveyed (scan log count headerLength [])
+  surveyed-with {second} e =
       let counted : length (reverse (all .past)) ≡ count = omega (arith, length-reverse (all .past), all .counted) in
-      let earliest : pendingRemove (reverse (all .past)) ≡ least = least-found (all .kept .clients) (rw (← (all .counted)) at found) in
-      rw (all .reads, counted, earliest, operations-reverse (all .past), all .kept .calls) refl
+      rw (all .reads, counted, e, operations-reverse (all .past), all .kept .calls) refl
+
+  module _ {first : ℕ} (found : LeastRemove (t .codes) (p .clients) 0 count first) where
+    earliest : pendingRemove (reverse (all .past)) ≡ first
+    earliest =
+        let is : 0 + pendingRemove (reverse (all .past)) ≡ first = least-found (all .kept .clients) (omega arith) (rw (← (all .counted)) at found) in
+        omega arith
+
+    pub none-surveyed : count ≤ first → Whole count (p .operations) (first + 1) ≡ surveyed (scan log count headerLength [])
+    none-surveyed l = surveyed-with (rw earliest (omega (arith, pending-within (drop (suc first) (reverse (all .past))), length-drop (suc first) (reverse (all .past)), length-reverse (all .past), found .within)))
+
+    pub all-surveyed : {second : ℕ} → first < count → LeastRemove (t .codes) (p .clients) (first + 1) count second → Whole count (p .operations) second ≡ surveyed (scan log count headerLength [])
+    all-surveyed {second} l next = surveyed-with (rw (earliest, ← (add-one first)) (least-found (all .kept .clients) (omega (arith, all .counted)) (rw (← (all .counted)) at next)))
 
   -- bytes that are handed in behind them: there are too many records already, something is wrong, or they fit
   module _ (bytes : List ℕ) where
@@ -213,11 +227,11 @@ header-is log header e = go (ltb (length log) headerLength) (eqb (getD log 0 0) 
 
 -- the answers that the outcome of a scan gives: but for 10, and with 10
 abbrev pub partly : Survey → Checked
-partly (Whole records operations least) = Readable records operations
+partly (Whole records operations second) = Readable records operations
 partly (Broken number index) = Refused number index
 
 abbrev pub wholly : Survey → Checked
-wholly (Whole records operations least) = if ltb least records then Refused 10 least else Readable records operations
+wholly (Whole records operations second) = if ltb second records then Refused 10 second else Readable records operations
 wholly (Broken number index) = Refused number index
 
 pub partly-checked : (reading : Reading) → partly (surveyed reading) ≡ checked reading
@@ -225,10 +239,10 @@ partly-checked (readable records) = refl
 partly-checked (refused number index) = refl
 
 pub wholly-checked : (reading : Reading) → wholly (surveyed reading) ≡ checked (complete reading)
-wholly-checked (readable records) = go (ltb (pendingRemove records) (length records))
+wholly-checked (readable records) = go (ltb (secondRemove records) (length records))
   where
-    go : (b : Bool) → (if b then Refused 10 (pendingRemove records) else Readable (length records) (operations records))
-        ≡ checked (if b then refused 10 (pendingRemove records) else readable records)
+    go : (b : Bool) → (if b then Refused 10 (secondRemove records) else Readable (length records) (operations records))
+        ≡ checked (if b then refused 10 (secondRemove records) else readable records)
     go true = refl
     go false = refl
 wholly-checked (refused number index) = refl

@@ -1,9 +1,9 @@
--- Document 01, "The log" and "Turned down by what was handed in", with refusal 31 of document 02, change 3: what a whole log is read as. The records come one after the
--- other; each is held against those before it, which stand here latest first; then left bytes, then 10.
+-- Document 01, "The log" and "Turned down by what was handed in", with document 02, changes 3 (refusal 31) and 4 (refusal 10): what a whole log is
+-- read as. The records come one after the other; each is held against those before it, which stand here latest first; then left bytes, then 10.
 use Prim.Native.Nat.{ℕ, zero, suc, _+_}
 use mathlib.Core.Bool.{Bool, false, not}
 use mathlib.Core.List.{List, [], _∷_, _++_, map, reverse}
-use lib.ListN.{length, getD}
+use lib.ListN.{length, getD, drop}
 use lib.Dec.{ltb, eqb}
 use Rattle.record.specs.Choice.{if_then_else_}
 use Rattle.record.specs.Number.{bigEndian, bytesOf}
@@ -149,10 +149,22 @@ pendingRemove (r ∷ records) =
     if isIn (r .client) (clientsOf records) then suc (pendingRemove records) else
     0
 
--- 10, the last test
+-- the same from an index on: the index of the earliest remove without return that is called there or later, or a number above every index
+abbrev pub pendingFrom : ℕ → List Record → ℕ
+pendingFrom from records = from + pendingRemove (drop from records)
+
+-- the index of the second remove without return, or a number above every index: the earliest one after the earliest
+abbrev pub secondRemove : List Record → ℕ
+secondRemove records = pendingFrom (suc (pendingRemove records)) records
+
+-- whether a log has an open remove
+abbrev pub hasPendingRemove : List Record → Bool
+hasPendingRemove records = ltb (pendingRemove records) (length records)
+
+-- 10, the last test. Document 02, change 4: "Refusal 10 is now for a second remove without return, with the index of its call."
 abbrev pub complete : Reading → Reading
 complete (readable records) =
-    if ltb (pendingRemove records) (length records) then refused removePending (pendingRemove records) else readable records
+    if ltb (secondRemove records) (length records) then refused removePending (secondRemove records) else readable records
 complete (refused number index) = refused number index
 
 -- a log: "A log with none of 1 to 10, nor with a refusal that a later change puts before or among them, is readable."

@@ -82,14 +82,20 @@ pub record PartialLog (log : List ℕ) (records : List Record) : Type 0 where
   -- what they obey, one by one
   pub regular : Regular records
 
+-- The record with an index is the call of a remove without return: its client has no later record. The next one would be the return, by `next`.
+pub record Unreturned (records : List Record) (i : ℕ) : Type 0 where
+  pub there : i < length records
+  pub removes : recordOf records i .event ≡ CallRemove
+  pub last : (j : ℕ) → Next records i j → ⊥
+
 -- A readable log, and its records.
 pub record ReadableLog (log : List ℕ) (records : List Record) : Type 0 where
   pub partial : PartialLog log records
-  -- every remove has a return: its client's next record, which asks for a remove's call by `next`
-  pub returned : (i : ℕ) → i < length records → recordOf records i .event ≡ CallRemove → (j : ℕ) × Next records i j
+  -- "one remove may be left open" (document 02, change 4): two removes without return are one
+  pub lone : (i j : ℕ) → Unreturned records i → Unreturned records j → i ≡ j
 
--- What makes records those of a readable log: they are regular, their fields fit and every remove has a return.
+-- What makes records those of a readable log: they are regular, their fields fit and at most one remove has no return.
 pub record Orderly (records : List Record) : Type 0 where
   pub regular : Regular records
   pub small : (i : ℕ) → i < length records → Small (recordOf records i)
-  pub returned : (i : ℕ) → i < length records → recordOf records i .event ≡ CallRemove → (j : ℕ) × Next records i j
+  pub lone : (i j : ℕ) → Unreturned records i → Unreturned records j → i ≡ j

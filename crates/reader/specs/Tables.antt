@@ -10,7 +10,7 @@ use Rattle.record.specs.Choice.{if_then_else_}
 use Rattle.record.specs.Refusal.{wrongBytes, wrongVersion, tooManyRecords, tickFell}
 use Rattle.record.specs.declared.record.Record.{Record}
 use Rattle.map.specs.Map.{Latest, Linked, NarrowLinked}
-use Rattle.reader.specs.Log.{logVersion, headerLength, maxRecords, countField, removeCall, leaves, Reading, readable, refused, addedValues, lastTick, operations, pendingRemove, eventFault, fault, scan}
+use Rattle.reader.specs.Log.{logVersion, headerLength, maxRecords, countField, removeCall, leaves, Reading, readable, refused, addedValues, lastTick, operations, secondRemove, eventFault, fault, scan}
 use Rattle.reader.specs.Feed.{faultBehind}
 use Rattle.reader.specs.declared.clients.Standing.{Standing}
 use Rattle.reader.specs.declared.scan.Progress.{Progress}
@@ -115,11 +115,11 @@ pub record Noted (client code entry count : ℕ) (clients codes : List ℕ) (met
   pub old : entry < count → (met ≡ count) × (clients' ≡ clients)
   pub new : count ≤ entry → (met ≡ count + 1) × (clients' ≡ set clients count client)
 
--- r is the lowest index of a pending remove that the first `count` codes have, or `none` if they have none below it.
-pub record LeastRemove (codes : List ℕ) (count none r : ℕ) : Type 0 where
+-- r is the lowest index, from an index on, of a pending remove that the first `count` codes have, or `none` if they have none below it.
+pub record LeastRemove (codes : List ℕ) (count from none r : ℕ) : Type 0 where
   pub within : r ≤ none
-  pub least : (p : ℕ) → p < count → getD codes p 0 % 4 ≡ removeCall → r < getD codes p 0 / 4
-  pub there : r < none → (p : ℕ) × (p < count) × (getD codes p 0 ≡ (r + 1) * 4 + removeCall)
+  pub least : (p : ℕ) → p < count → getD codes p 0 % 4 ≡ removeCall → from < getD codes p 0 / 4 → r < getD codes p 0 / 4
+  pub there : r < none → (from ≤ r) × ((p : ℕ) × (p < count) × (getD codes p 0 ≡ (r + 1) * 4 + removeCall))
 
 -- The tables hold what they held and the record r, the next one to read stands at `next`.
 pub record Admitted (r : Record) (next index : ℕ) (p : Progress) (t : Tables) (q : Progress) (t' : Tables) : Type 0 where
@@ -159,7 +159,7 @@ headerOf log =
     if ltb maxRecords (countField log) then Wrong tooManyRecords else
     Count (countField log)
 
--- the answer of the scan, with the index of the earliest pending remove
+-- the answer of the scan, with the index of the second pending remove
 abbrev pub surveyed : Reading → Survey
-surveyed (readable records) = Whole (length records) (operations records) (pendingRemove records)
+surveyed (readable records) = Whole (length records) (operations records) (secondRemove records)
 surveyed (refused number index) = Broken number index

@@ -96,10 +96,10 @@ pub(crate) fn note_client(
     count + 1
 }
 
-// The index of the earliest remove that is pending, `none` where there is none.
-pub(crate) fn earliest_remove(codes: &Table, count: usize, none: usize) -> usize
+// The index of the earliest remove that is pending and was called at index `from` or later, `none` where there is none.
+pub(crate) fn earliest_remove(codes: &Table, count: usize, from: usize, none: usize) -> usize
     requires { ⌜ Fits count (now codes) × Coded count (now codes) ⌝ }
-    ensures { λ r. ⌜ LeastRemove (now (codes .entry)) count none r ⌝ }
+    ensures { λ r. ⌜ LeastRemove (now (codes .entry)) count from none r ⌝ }
 {
     let mut least = none;
     let mut i = 0;
@@ -107,8 +107,10 @@ pub(crate) fn earliest_remove(codes: &Table, count: usize, none: usize) -> usize
         let code = codes[i];
         if code % 4 == REMOVE_CALL {
             let index = index_of(code);
-            if index < least {
-                least = index;
+            if from <= index {
+                if index < least {
+                    least = index;
+                }
             }
         }
         i += 1;

@@ -35,7 +35,7 @@ fn read_partial(log: &[u8]) -> Survey
     }
 }
 
-// Checks a log but for refusal 10: removes may be pending.
+// Checks a log but for refusal 10: any number of removes may be pending.
 pub fn check_partial(log: &[u8]) -> Checked
     ensures { λ r. ⌜ r ≡ checked (readPartial (now (log .entry))) ⌝ }
 {
@@ -44,7 +44,7 @@ pub fn check_partial(log: &[u8]) -> Checked
         Survey::Whole {
             records,
             operations,
-            pending_remove: _,
+            second_remove: _,
         } => Checked::Readable {
             records,
             operations,
@@ -61,12 +61,12 @@ pub fn check(log: &[u8]) -> Checked
         Survey::Whole {
             records,
             operations,
-            pending_remove,
+            second_remove,
         } => {
-            if pending_remove < records {
+            if second_remove < records {
                 return Checked::Refused {
                     number: REMOVE_PENDING,
-                    index: pending_remove,
+                    index: second_remove,
                 };
             }
             Checked::Readable {

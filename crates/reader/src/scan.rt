@@ -60,12 +60,12 @@ pub enum Pass {
     Stopped { number: u32, index: usize },
 }
 
-// The answer of a scan, with the index of the earliest pending remove, `records` where there is none.
+// The answer of a scan, with the index of the second pending remove, `records` or more where there is none.
 pub enum Survey {
     Whole {
         records: usize,
         operations: usize,
-        pending_remove: usize,
+        second_remove: usize,
     },
     Broken {
         number: u32,
@@ -310,10 +310,19 @@ pub(crate) fn read_records(log: &[u8], count: usize) -> Survey
         Pass::Stopped { number, index } => Survey::Broken { number, index },
         Pass::Through(p) => {
             let met = p.clients;
+            let first = earliest_remove(&codes, met, 0, count);
+            let after = first + 1;
+            if count <= first {
+                return Survey::Whole {
+                    records: count,
+                    operations: p.operations,
+                    second_remove: after,
+                };
+            }
             Survey::Whole {
                 records: count,
                 operations: p.operations,
-                pending_remove: earliest_remove(&codes, met, count),
+                second_remove: earliest_remove(&codes, met, after, count),
             }
         }
     }

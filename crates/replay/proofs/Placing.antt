@@ -12,10 +12,11 @@ use lib.Seq.{drop-cons, drop-length, getD-set-same, getD-set-other}
 use Rattle.reader.specs.Log.{maxRecords}
 use Rattle.history.specs.Answers.{Decides}
 use Rattle.history.specs.History.{History, Precedes}
-use Rattle.history.specs.RunFrom.{done, then}
-use Rattle.history.specs.Linearization.{Makes, Fifo, placed, CompleteLinearization}
+use Rattle.history.specs.Object.{Queue}
+use Rattle.history.specs.RunFrom.{RunFrom, done, then}
+use Rattle.history.specs.Linearization.{Moves, placed, Linearization}
 use Rattle.history.proofs.Running.{run-first}
-use Rattle.history.proofs.Queues.{makes-one}
+use Rattle.history.proofs.Queues.{moves-one}
 use Rattle.history.proofs.Basics.{up-to}
 use Rattle.replay.proofs.Marking.{total-mark}
 use Rattle.replay.specs.Trial.{Unmarked, waiting, Served, Serves, Kept, After, Stepped, AllPlaced, AllMarked}
@@ -49,11 +50,11 @@ module _ (h : History) (o latest : ℕ) (p : Progress) (marks queue : List ℕ) 
     rest : drop i order ≡ o ∷ drop (i + 1) order
     rest = rw (add-one, ← here) (drop-cons order i 0 below)
 
-    first : Fifo h order [] → (queue' : List ℕ) × Makes h o (waiting p queue) queue' × Fifo h (drop (i + 1) order) queue'
+    first : RunFrom (Moves h) order [] → (queue' : List ℕ) × Moves h o (waiting p queue) queue' × RunFrom (Moves h) (drop (i + 1) order) queue'
     first run = run-first (rw rest at (kept .rest-follows run))
 
-    unplaced : ((queue' : List ℕ) → Makes h o (waiting p queue) queue' → ⊥) → CompleteLinearization h order → ⊥
-    unplaced served legal = let (queue', made, more) = first (legal .runs) in served queue' made
+    unplaced : ((queue' : List ℕ) → Moves h o (waiting p queue) queue' → ⊥) → Linearization Queue h order → ⊥
+    unplaced served legal = let (queue', moved, more) = first (legal .runs) in served queue' moved
 
     not-before : (j : ℕ) → j < i → placed order j ≡ o → ⊥
     not-before j m e = fresh (rw e at (kept .marks-all j m))
@@ -86,7 +87,7 @@ module _ (h : History) (o latest : ℕ) (p : Progress) (marks queue : List ℕ) 
         go (inr e) = (i, omega arith, ap (h .call) here ∙ sym e)
 
     one-placed : (s : Progress) (queue' : List ℕ) → length queue' ≡ maxRecords → Served h o q queue queue' (Placed s) → Kept h order (i + 1) s marks' queue'
-    one-placed s queue' sized (made, same, held, more) = record {
+    one-placed s queue' sized (moved, same, held, more) = record {
       has-room = record {
         few = kept .has-room .few;
         marks-sized = length-set marks o 1 ∙ kept .has-room .marks-sized;
@@ -103,8 +104,8 @@ module _ (h : History) (o latest : ℕ) (p : Progress) (marks queue : List ℕ) 
       marks-all = up-to (λ j m. getD-set-other marks o (placed order j) 1 0 (not-before j m) ∙ kept .marks-all j m) (rw here (getD-set-same marks o 1 0 in-marks));
       above = up-to (λ j m. omega (arith, kept .above j m)) (omega (arith, ap (h .call) here));
       met = rw same met';
-      rest-suffices = λ run. kept .rest-suffices (rw rest (then made run));
-      rest-follows = λ run. let (queue'', made', rest') = first run in rw (makes-one made made') rest';
+      rest-suffices = λ run. kept .rest-suffices (rw rest (then moved run));
+      rest-follows = λ run. let (queue'', moved', rest') = first run in rw (moves-one moved moved') rest';
     }
 
   pub stepped : {step : Step} {queue' : List ℕ} → Serves (h .kind o) (h .value o) q queue step queue' → Stepped h o p marks queue step (set marks o 1) queue'
@@ -130,7 +131,7 @@ kept-none h order marks queue few unmarked sized = record {
 }
 
 -- an order all of which is placed is legal exactly if it omits no returned operation
-placed-legal : {h : History} {order marks : List ℕ} → AllPlaced h order marks → AllMarked h marks → CompleteLinearization h order
+placed-legal : {h : History} {order marks : List ℕ} → AllPlaced h order marks → AllMarked h marks → Linearization Queue h order
 placed-legal {order = order} all marked = record {
   ordering = record {
     known = all .kept .known;
@@ -141,10 +142,10 @@ placed-legal {order = order} all marked = record {
   runs = all .kept .rest-suffices (rw (drop-length order) done);
 }
 
-legal-marks : {h : History} {order marks : List ℕ} → AllPlaced h order marks → CompleteLinearization h order → AllMarked h marks
+legal-marks : {h : History} {order marks : List ℕ} → AllPlaced h order marks → Linearization Queue h order → AllMarked h marks
 legal-marks all legal o l r = let listed = legal .ordering .every o l r in rw (listed .here) at (all .kept .marks-all (listed .at) (listed .below))
 
 pub legal-decided : {h : History} {order marks : List ℕ} → AllPlaced h order marks → (marked : Bool) → Decides (AllMarked h marks) marked
-    → Decides (CompleteLinearization h order) marked
+    → Decides (Linearization Queue h order) marked
 legal-decided all true marked = placed-legal all marked
 legal-decided all false omitted = λ legal. omitted (legal-marks all legal)

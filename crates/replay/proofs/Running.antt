@@ -8,7 +8,8 @@ use lib.ListN.{length}
 use Rattle.record.specs.Number.{bigEndian}
 use Rattle.reader.specs.Log.{maxRecords}
 use Rattle.history.specs.History.{History}
-use Rattle.history.specs.Linearization.{CompleteLinearization}
+use Rattle.history.specs.Object.{Queue}
+use Rattle.history.specs.Linearization.{Linearization}
 use Rattle.history.specs.Sheet.{sheetHeader, listedField, listedOn, isOrderSheet}
 use Rattle.history.proofs.Forms.{sheet-long}
 use Rattle.history.proofs.Sheets.{listed-length, listed-at}
@@ -43,7 +44,7 @@ module _ {h : History} {sheet marks queue : List ℕ} {k i : ℕ} {p : Progress}
     after : After h (listedOn sheet) i marks' queue' step
     after = stepped .after (listedOn sheet) i (omega (arith, whole)) (listed-at sheet i (omega (arith, running .listed)) ∙ sym e) (running .kept)
 
-    pub running-stops : step ≡ Illegal → CompleteLinearization h (listedOn sheet) → ⊥
+    pub running-stops : step ≡ Illegal → Linearization Queue h (listedOn sheet) → ⊥
     running-stops s = rw s at after
 
     pub running-next : {q : Progress} → step ≡ Placed q → Running h sheet k (i + 1) q marks' queue'

@@ -1,5 +1,6 @@
 -- What replay answers for a log and a sheet. Document 01, "Turned down by what was handed in", 11, and demand 2: replay says yes
--- to a log and an order exactly if that order is legal for that log.
+-- to a log and an order exactly if that order is legal for that log. A remove that has not returned may stand in it once or be left
+-- out (document 02, change 4: legal "in this wider sense, and replay uses it too").
 use Prim.Native.Nat.{ℕ}
 use mathlib.Core.Path.{_≡_}
 use mathlib.Core.Bool.{true}

@@ -8,7 +8,9 @@ use lib.ListN.{length, getD, drop}
 use lib.Seq.{slice}
 use Rattle.reader.specs.Log.{maxRecords}
 use Rattle.history.specs.History.{History, Returned, Precedes}
-use Rattle.history.specs.Linearization.{Makes, Fifo, placed, CompleteLinearization}
+use Rattle.history.specs.Object.{Queue}
+use Rattle.history.specs.RunFrom.{RunFrom}
+use Rattle.history.specs.Linearization.{Moves, placed, Linearization}
 use Rattle.history.specs.Table.{tabled, returnAt}
 use Rattle.replay.specs.declared.order.Progress.{Progress}
 use Rattle.replay.specs.declared.order.Step.{Step}
@@ -39,9 +41,9 @@ pub record Room (count : ℕ) (p : Progress) (marks queue : List ℕ) : Type 0 w
 
 -- Operation o is run on the queue, or cannot be.
 abbrev pub Served : History → ℕ → Progress → List ℕ → List ℕ → Step → Type 0
-Served h o p queue queue' Illegal = (rest : List ℕ) → Makes h o (waiting p queue) rest → ⊥
+Served h o p queue queue' Illegal = (rest : List ℕ) → Moves h o (waiting p queue) rest → ⊥
 Served h o p queue queue' (Placed q) =
-    Makes h o (waiting p queue) (waiting q queue') × (q .latest ≡ p .latest) × (q .head ≤ q .tail) × (q .tail ≤ p .tail + 1)
+    Moves h o (waiting p queue) (waiting q queue') × (q .latest ≡ p .latest) × (q .head ≤ q .tail) × (q .tail ≤ p .tail + 1)
 
 -- the same for every operation of this kind and value
 pub record Serves (kind value : ℕ) (p : Progress) (queue : List ℕ) (step : Step) (queue' : List ℕ) : Type 0 where
@@ -62,12 +64,12 @@ pub record Kept (h : History) (order : List ℕ) (i : ℕ) (p : Progress) (marks
   pub above : (j : ℕ) → j < i → h .call (placed order j) ≤ p .latest
   pub met : 0 < p .latest → (j : ℕ) × (j < i) × (h .call (placed order j) ≡ p .latest)
   -- the order can be run exactly if the rest of it can be run from the queue
-  pub rest-suffices : Fifo h (drop i order) (waiting p queue) → Fifo h order []
-  pub rest-follows : Fifo h order [] → Fifo h (drop i order) (waiting p queue)
+  pub rest-suffices : RunFrom (Moves h) (drop i order) (waiting p queue) → RunFrom (Moves h) order []
+  pub rest-follows : RunFrom (Moves h) order [] → RunFrom (Moves h) (drop i order) (waiting p queue)
 
 -- A step: the next operation of the order is placed, or the order is not legal.
 abbrev pub After : History → List ℕ → ℕ → List ℕ → List ℕ → Step → Type 0
-After h order i marks queue Illegal = CompleteLinearization h order → ⊥
+After h order i marks queue Illegal = Linearization Queue h order → ⊥
 After h order i marks queue (Placed q) = Kept h order (i + 1) q marks queue
 
 pub record Stepped (h : History) (o : ℕ) (p : Progress) (marks queue : List ℕ) (step : Step) (marks' queue' : List ℕ) : Type 0 where
@@ -86,7 +88,7 @@ pub record AllPlaced (h : History) (order marks : List ℕ) : Type 0 where
 -- all of the order is placed, or the order is not legal
 abbrev pub Tried : History → List ℕ → List ℕ → Bool → Type 0
 Tried h order marks true = AllPlaced h order marks
-Tried h order marks false = CompleteLinearization h order → ⊥
+Tried h order marks false = Linearization Queue h order → ⊥
 
 -- the same for the history in a table, wherever its end is
 pub record TriedIn (count : ℕ) (table order marks : List ℕ) (answer : Bool) : Type 0 where

@@ -6,12 +6,15 @@ ghost use Prim.Native.Nat.{_≤_, _<_};
 ghost use lib.ListN.{length};
 ghost use Rattle.reader.specs.Log.{maxRecords};
 ghost use Rattle.history.specs.Answers.{Decides};
-ghost use Rattle.history.specs.Linearization.{CompleteLinearization};
+ghost use Rattle.history.specs.Linearization.{Linearization};
+ghost use Rattle.history.specs.Object.{Queue};
+ghost use Rattle.history.specs.Positions.{maxPositions};
 ghost use Rattle.history.specs.Sheet.{listedOn, isOrderSheet};
 ghost use Rattle.history.specs.Table.{tabled};
 ghost use Rattle.replay.specs.Trial.{Unmarked, Room, Serves, StepsIn, TriedIn, ReturnIsMarked, AllMarked};
 use history::operations::ADD;
 use history::operations::EMPTY_REMOVE;
+use history::operations::NO_KIND;
 use history::operations::Operations;
 use history::operations::REMOVE;
 use history::operations::call_of;
@@ -77,6 +80,18 @@ fn serve(kind: u32, value: u32, p: Progress, queue: &mut Queue) -> Step
                 return Step::Illegal;
             }
             Step::Placed(p)
+        }
+        // A remove that has not returned takes the front value if there is one and otherwise changes nothing.
+        NO_KIND => {
+            if head == tail {
+                return Step::Placed(p);
+            }
+            let next = head + 1;
+            Step::Placed(Progress {
+                latest: p.latest,
+                head: next,
+                tail,
+            })
         }
         _ => Step::Illegal,
     }
@@ -147,7 +162,7 @@ fn place_all(table: &Operations, count: usize, sheet: &[u8], marks: &mut Marks) 
 
 // Whether an operation is marked if it has returned; one that is pending may be left out.
 fn marked_if_returned(table: &Operations, end: usize, o: usize, marks: &Marks) -> bool
-    requires { ⌜ (end ≤ maxRecords) × (o < maxRecords) ⌝ }
+    requires { ⌜ (end ≤ maxPositions) × (o < maxRecords) ⌝ }
     ensures { λ r. ⌜ Decides (ReturnIsMarked end (now (table .entry)) (now (marks .entry)) o) r ⌝ }
 {
     if end as u32 <= return_of(table, o) {
@@ -161,7 +176,7 @@ fn marked_if_returned(table: &Operations, end: usize, o: usize, marks: &Marks) -
 
 // Whether every returned operation is marked.
 fn all_marked(table: &Operations, count: usize, end: usize, marks: &Marks) -> bool
-    requires { ⌜ (count ≤ maxRecords) × (end ≤ maxRecords) ⌝ }
+    requires { ⌜ (count ≤ maxRecords) × (end ≤ maxPositions) ⌝ }
     ensures { λ r. ⌜ Decides (AllMarked (tabled count end (now (table .entry))) (now (marks .entry))) r ⌝ }
 {
     let mut o = 0;
@@ -176,8 +191,8 @@ fn all_marked(table: &Operations, count: usize, end: usize, marks: &Marks) -> bo
 
 // Whether the order that a sheet lists is legal for the history that the table holds.
 pub(crate) fn is_linearization(table: &Operations, count: usize, end: usize, sheet: &[u8]) -> bool
-    requires { ⌜ (count ≤ maxRecords) × (end ≤ maxRecords) × (isOrderSheet (now sheet) ≡ true) ⌝ }
-    ensures { λ r. ⌜ Decides (CompleteLinearization (tabled count end (now (table .entry))) (listedOn (now (sheet .entry)))) r ⌝ }
+    requires { ⌜ (count ≤ maxRecords) × (end ≤ maxPositions) × (isOrderSheet (now sheet) ≡ true) ⌝ }
+    ensures { λ r. ⌜ Decides (Linearization Queue (tabled count end (now (table .entry))) (listedOn (now (sheet .entry)))) r ⌝ }
 {
     let mut marks = [0u8; MAX_RECORDS];
     if !place_all(table, count, sheet, &mut marks) {

@@ -35,7 +35,7 @@ pub fn replay(log: &[u8], sheet: &[u8]) -> Replayed
                     index: 0,
                 };
             }
-            if is_linearization(&table, operations, records, sheet) {
+            if is_linearization(&table, operations, records + 1, sheet) {
                 return Replayed::Yes;
             }
             Replayed::No

@@ -6,7 +6,7 @@ use mathlib.Core.Logic.{_⊎_, inl, inr}
 use mathlib.Core.List.{List}
 use lib.ListN.{length, getD, set, length-set}
 use lib.Seq.{getD-set-other}
-use Rattle.reader.specs.Log.{maxRecords}
+use Rattle.history.specs.Positions.{maxPositions}
 use Rattle.history.specs.History.{History}
 use Rattle.history.proofs.Basics.{up-to}
 use Rattle.matching.specs.Returns.{NotedAt, ReturnsNoted}
@@ -73,18 +73,18 @@ module _ {h : History} {reach : List ℕ} {g furthest last : ℕ} {gaps : List �
 -- The sweep has come to position g, whatever history the table that it began with is of.
 pub record SweptTo (end : ℕ) (gaps₀ gaps : List ℕ) (furthest last g : ℕ) : Type 0 where
   pub below : g ≤ end
-  pub sized : length gaps ≡ maxRecords
+  pub sized : length gaps ≡ maxPositions
   -- the entries from g on are as they were
   pub rest : (f : ℕ) → g ≤ f → getD gaps f 0 ≡ getD gaps₀ f 0
   pub sweeping : (h : History) (reach : List ℕ) → h .end ≡ end → ReturnsNoted h reach (h .count) gaps₀ → Sweeping h reach g furthest last gaps
 
 -- the sweep begins
-pub swept-none : (end : ℕ) {gaps : List ℕ} → length gaps ≡ maxRecords → SweptTo end gaps gaps 0 0 0
+pub swept-none : (end : ℕ) {gaps : List ℕ} → length gaps ≡ maxPositions → SweptTo end gaps gaps 0 0 0
 swept-none end {gaps} sized = record { below = omega arith; sized = sized; rest = λ f l. refl; sweeping = λ h reach e noted. sweeping-starts h reach gaps }
 
 module _ {end : ℕ} {gaps₀ gaps : List ℕ} {furthest last g : ℕ} (swept : SweptTo end gaps₀ gaps furthest last g) where
   -- it goes on by one position
-  pub swept-more : g < end → end ≤ maxRecords → {y : ℕ} → Larger furthest (getD gaps g 0) y → {last' : ℕ} → ((y ≤ g) × (last' ≡ g + 1)) ⊎ ((g < y) × (last' ≡ last)) → SweptTo end gaps₀ (set gaps g last') y last' (g + 1)
+  pub swept-more : g < end → end ≤ maxPositions → {y : ℕ} → Larger furthest (getD gaps g 0) y → {last' : ℕ} → ((y ≤ g) × (last' ≡ g + 1)) ⊎ ((g < y) × (last' ≡ last)) → SweptTo end gaps₀ (set gaps g last') y last' (g + 1)
   swept-more l short {y} larger {last'} by = record {
     below = omega arith;
     sized = simp length-set (swept .sized);

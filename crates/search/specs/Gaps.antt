@@ -4,8 +4,8 @@ use Prim.Native.Nat.{ℕ, _+_, _-_, _≤_, _<_}
 use mathlib.Core.Path.{_≡_}
 use mathlib.Core.List.{List}
 use lib.ListN.{length, getD}
-use Rattle.reader.specs.Log.{maxRecords}
 use Rattle.history.specs.History.{History, add}
+use Rattle.history.specs.Positions.{maxPositions}
 use Rattle.violations.specs.Violations.{Is}
 use Rattle.matching.specs.Returns.{ReturnsNoted}
 use Rattle.matching.specs.Reaches.{reachAt}
@@ -24,7 +24,7 @@ pub record LastUncovered (h : History) (reach : List ℕ) (g x : ℕ) : Type 0 w
 
 -- the table of gaps up to position n
 pub record Uncovered (h : History) (reach : List ℕ) (n : ℕ) (gaps : List ℕ) : Type 0 where
-  pub sized : length gaps ≡ maxRecords
+  pub sized : length gaps ≡ maxPositions
   pub lasts : (g : ℕ) → g < n → LastUncovered h reach g (getD gaps g 0)
 
 -- The sweep turns a table of how far the values noted at each position reach into the table of gaps below, whatever history it is of.

@@ -4,6 +4,7 @@ ghost use mathlib.Core.Path.{_≡_};
 ghost use Prim.Native.Nat.{_+_, _≤_, _<_};
 ghost use lib.ListN.{length};
 ghost use Rattle.reader.specs.Log.{maxRecords};
+ghost use Rattle.history.specs.Positions.{maxPositions};
 ghost use Rattle.history.specs.Table.{tabled};
 ghost use Rattle.matching.specs.Held.{Held};
 ghost use Rattle.matching.specs.Matching.{Partners};
@@ -13,6 +14,7 @@ use history::operations::EMPTY_REMOVE;
 use history::operations::Operations;
 use history::operations::kind_of;
 use history::operations::return_of;
+use matching::returns::Positions;
 use matching::values::Numbers;
 use table::number::min;
 
@@ -28,10 +30,10 @@ fn limit_of(
     count: usize,
     end: usize,
     partner: &Numbers,
-    gaps: &Numbers,
+    gaps: &Positions,
     o: usize,
 ) -> u32
-    requires { ⌜ Held (tabled count end (now table)) × Partners (now table) count (now partner) × (length (now gaps) ≡ maxRecords) × (o < count) ⌝ }
+    requires { ⌜ Held (tabled count end (now table)) × Partners (now table) count (now partner) × (length (now gaps) ≡ maxPositions) × (o < count) ⌝ }
     ensures { λ r. ⌜ r ≡ limitBy (now (table .entry)) end (now (partner .entry)) (now (gaps .entry)) o ⌝ }
 {
     let kind = kind_of(table, o);
@@ -54,10 +56,10 @@ pub(crate) fn fill_limits(
     count: usize,
     end: usize,
     partner: &Numbers,
-    gaps: &Numbers,
+    gaps: &Positions,
     limit: &mut Numbers,
 )
-    requires { ⌜ Held (tabled count end (now table)) × Partners (now table) count (now partner) × (length (now gaps) ≡ maxRecords) × (length (now limit) ≡ maxRecords) ⌝ }
+    requires { ⌜ Held (tabled count end (now table)) × Partners (now table) count (now partner) × (length (now gaps) ≡ maxPositions) × (length (now limit) ≡ maxRecords) ⌝ }
     ensures { λ _. ⌜ LimitTable count end (now (table .entry)) (now (partner .entry)) (now (gaps .entry)) (now (limit .exit)) ⌝ }
 {
     let mut o = 0;
@@ -69,7 +71,7 @@ pub(crate) fn fill_limits(
 
 // Fills for each operation the least limit from it on, from the last operation down; behind the last there is none, the end and 1.
 pub(crate) fn fill_bounds(count: usize, end: usize, limit: &Numbers, bound: &mut Bounds)
-    requires { ⌜ (count ≤ maxRecords) × (end ≤ maxRecords) × (length (now limit) ≡ maxRecords) × (length (now bound) ≡ maxRecords + 1) ⌝ }
+    requires { ⌜ (count ≤ maxRecords) × (end ≤ maxPositions) × (length (now limit) ≡ maxRecords) × (length (now bound) ≡ maxRecords + 1) ⌝ }
     ensures { λ _. ⌜ BoundTable count end (now (limit .entry)) 0 (now (bound .exit)) ⌝ }
 {
     let mut o = count;

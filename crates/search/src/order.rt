@@ -14,6 +14,7 @@ use crate::bounds::fill_limits;
 use crate::gaps::fill_gaps;
 use crate::search::search;
 use history::operations::Operations;
+use matching::returns::POSITIONS;
 use matching::values::Numbers;
 use reader::format::MAX_RECORDS;
 
@@ -35,7 +36,7 @@ pub fn find_order(
     requires { ⌜ Held (tabled count end (now table)) × Partners (now table) count (now partner) × Single (tabled count end (now table)) × Reaching (tabled count end (now table)) (now reach) × (length (now list) ≡ maxRecords) ⌝ }
     ensures { λ r. ⌜ Ordered (tabled count end (now (table .entry))) r (now (list .exit)) ⌝ }
 {
-    let mut gaps = [0u32; MAX_RECORDS];
+    let mut gaps = [0u32; POSITIONS];
     fill_gaps(table, count, end, reach, &mut gaps);
     let mut limit = [0u32; MAX_RECORDS];
     fill_limits(table, count, end, partner, &gaps, &mut limit);

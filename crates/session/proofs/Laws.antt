@@ -2,6 +2,7 @@
 use Prim.Native.Nat.{ℕ, _+_, _≤_}
 use native.Mathlib.Omega.{arith}
 use mathlib.Core.Path.{_≡_, refl, sym, ap, _∙_}
+use mathlib.Core.Bool.{true}
 use mathlib.Core.List.{List, [], _++_, map}
 use lib.ListN.{length, take, drop, length-append, length-drop}
 use lib.Seq.{take-append-seam, drop-append-seam, drop-drop}
@@ -9,7 +10,7 @@ use Rattle.record.specs.Number.{bytesOf, Bytes}
 use Rattle.record.specs.Record.{encode, sizeOf}
 use Rattle.record.specs.declared.record.Record.{Record}
 use Rattle.buffer.specs.declared.output.Output.the-variants.{Written}
-use Rattle.reader.specs.Log.{headerLength, Reading, readable, readPartial, readLog, encodeAll, encodeLog}
+use Rattle.reader.specs.Log.{headerLength, Reading, readable, readPartial, readLog, encodeAll, encodeLog, hasPendingRemove}
 use Rattle.reader.specs.Readable.{sizes}
 use Rattle.reader.proofs.Laws.{partial-log, written-log}
 use Rattle.judge.specs.Judge.{sheetBytes, Judges}
@@ -18,7 +19,7 @@ use Rattle.judge.specs.declared.judge.Verdict.the-variants.{Order, Pattern}
 use Rattle.judge.proofs.Laws.{judged-determined}
 use Rattle.projection.specs.Outcome.{excerptAnswer, excerptLeaves}
 use Rattle.projection.proofs.Sizes.{log-length}
-use Rattle.archive.specs.Archive.{Archive, with-order, with-pattern}
+use Rattle.archive.specs.Archive.{Archive, with-order, with-pattern, sheet-alone}
 use Rattle.archive.proofs.Laws.{archive-one}
 use Rattle.session.specs.Session.{openStage, closedStage, heldLog, sessionReading, emptyLog, beginAnswer}
 use Rattle.session.specs.Course.{Lent, begun, Closes, Since, just-begun, logOf, Standing, is-open, is-closed, HoldsFed, afterFeeds, answersTo}
@@ -99,6 +100,11 @@ module _ {buffer : List ℕ} {fed : List (List ℕ)} {s : Lent} (since : Since b
     -- so the two are the archive of the log, byte for byte, whatever buffers are lent to either
     pub order-archived : {sheet left archived excerpt : List ℕ} {k : ℕ} → Judges reading sheet (Order k) left → Archive (logOf fed) archived excerpt → (take (sheetBytes (Order k)) left ≡ archived) × ([] ≡ excerpt)
     order-archived writes archive = archive-one (with-order (rw reading-is at writes)) archive
+
+    pub pending-archived : {sheet left archived excerpt : List ℕ} {number k : ℕ} {records : List Record} → Judges reading sheet (Pattern number k) left
+        → readLog (logOf fed) ≡ readable records → hasPendingRemove records ≡ true → Archive (logOf fed) archived excerpt
+        → (take (sheetBytes (Pattern number k)) left ≡ archived) × ([] ≡ excerpt)
+    pending-archived writes reads pending archive = archive-one (sheet-alone (rw reading-is at writes) reads pending) archive
 
     pub pattern-archived : {sheet left archived excerpt : List ℕ} {number k n : ℕ} → Judges reading sheet (Pattern number k) left → (out : List ℕ) → excerptAnswer reading out ≡ Written n → Archive (logOf fed) archived excerpt
         → (take (sheetBytes (Pattern number k)) left ≡ archived) × (take n (excerptLeaves reading out) ≡ excerpt)

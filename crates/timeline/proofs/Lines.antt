@@ -14,7 +14,7 @@ use borrow.Author.Tests.{lt-leb, le-leb}
 use Rattle.record.specs.Choice.{if_then_else_}
 use Rattle.text.specs.Text.{space, lineFeed, decimal}
 use Rattle.text.proofs.Decimals.{decimal-few}
-use Rattle.history.specs.History.{emptyRemove}
+use Rattle.history.specs.History.{emptyRemove, noKind}
 use Rattle.timeline.specs.Page.{pageRecords, rightAligned, leftAligned, joined, letterOf, labelOf, hash, dot, columnOf, columns, lineBytes, operationLine}
 use Rattle.timeline.specs.Spans.{columnRuns, leftPart, rightPart}
 
@@ -129,11 +129,12 @@ left-blank width text i h l =
 
 -- the length of a label
 pub label-length : (kind value : ℕ) → value < 4294967296 → length (labelOf kind value) ≤ 11
-label-length kind value h = go (eqb kind emptyRemove)
+label-length kind value h = go (eqb kind emptyRemove) (eqb kind noKind)
   where
-    go : (b : Bool) → length (letterOf kind ∷ (if b then [] else decimal value)) ≤ 11
-    go true = omega arith
-    go false = omega (arith, decimal-few 9 value (omega arith))
+    go : (empty pending : Bool) → length (letterOf kind ∷ (if empty then [] else if pending then [] else decimal value)) ≤ 11
+    go true pending = omega arith
+    go false true = omega arith
+    go false false = omega (arith, decimal-few 9 value (omega arith))
 
 -- the number of columns
 pub columns-length : (call return n : ℕ) → length (columns call return n) ≡ n

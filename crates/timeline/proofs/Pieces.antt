@@ -4,27 +4,34 @@ use native.Mathlib.Omega.{arith}
 use mathlib.Core.Path.{_≡_, refl, sym, ap, _∙_}
 use mathlib.Core.List.{List, [], _∷_, _++_, append-assoc}
 use lib.ListN.{length, replicate, length-append, length-replicate, replicate-append-replicate}
+use lib.Dec.{eqb}
 use mathlib.Core.Bool.{Bool}
 use Rattle.record.specs.Choice.{if_then_else_}
 use borrow.Author.Tests.{eq-eqb, ne-eqb}
 use Rattle.text.specs.Text.{space, lineFeed, decimal, Puts}
 use Rattle.text.proofs.Putting.{puts-more, puts-same}
-use Rattle.history.specs.History.{emptyRemove}
+use Rattle.history.specs.History.{emptyRemove, noKind}
 use Rattle.timeline.specs.Page.{rightAligned, letterOf, labelOf, hash, dot, pageRecords}
 use Rattle.timeline.specs.Spans.{columnRuns, leftBytes, leftPart, rightPart}
 
--- the label of an operation that is an empty remove, or is not
-abbrev labelIf : ℕ → ℕ → Bool → List ℕ
-labelIf kind value empty = letterOf kind ∷ (if empty then [] else decimal value)
+-- the label of an operation, by whether it is an empty remove and whether it is a remove that has not returned
+abbrev labelIf : ℕ → ℕ → Bool → Bool → List ℕ
+labelIf kind value empty pending = letterOf kind ∷ (if empty then [] else if pending then [] else decimal value)
 
--- a label: the letter and, unless it is that of an empty remove, the value
+label-is : (kind value : ℕ) {empty pending : Bool} → eqb kind emptyRemove ≡ empty → eqb kind noKind ≡ pending → labelOf kind value ≡ labelIf kind value empty pending
+label-is kind value {pending = pending} e f = ap (labelIf kind value (eqb kind emptyRemove)) f ∙ ap (λ empty. labelIf kind value empty pending) e
+
+-- a label: the letter and, unless it is that of an empty remove or of one that has not returned, the value
 module _ (kind value : ℕ) {letter : ℕ} (e : letter ≡ letterOf kind) {at mid : ℕ} {text text' : List ℕ} (p : Puts (letter ∷ []) at text mid text') where
   pub label-empty : kind ≡ emptyRemove → Puts (labelOf kind value) at text mid text'
-  label-empty z = puts-same (ap (labelIf kind value) (eq-eqb kind emptyRemove z) ∙ ap (λ l. l ∷ []) (sym e)) p
+  label-empty z = puts-same (label-is kind value (eq-eqb kind emptyRemove z) refl ∙ ap (λ l. l ∷ []) (sym e)) p
 
-  pub label-value : (kind ≡ emptyRemove → ⊥) → at ≤ length text → {next : ℕ} {text'' : List ℕ} → Puts (decimal value) mid text' next text''
+  pub label-pending : (kind ≡ emptyRemove → ⊥) → kind ≡ noKind → Puts (labelOf kind value) at text mid text'
+  label-pending z n = puts-same (label-is kind value (ne-eqb kind emptyRemove z) (eq-eqb kind noKind n) ∙ ap (λ l. l ∷ []) (sym e)) p
+
+  pub label-value : (kind ≡ emptyRemove → ⊥) → (kind ≡ noKind → ⊥) → at ≤ length text → {next : ℕ} {text'' : List ℕ} → Puts (decimal value) mid text' next text''
       → Puts (labelOf kind value) at text next text''
-  label-value z l q = puts-same (ap (labelIf kind value) (ne-eqb kind emptyRemove z) ∙ ap (λ l. l ∷ decimal value) (sym e)) (puts-more p q l)
+  label-value z n l q = puts-same (label-is kind value (ne-eqb kind emptyRemove z) (ne-eqb kind noKind n) ∙ ap (λ l. l ∷ decimal value) (sym e)) (puts-more p q l)
 
 -- the left part of a line: spaces, the number, a space, the label, and spaces up to character 17
 pub number-put : (o pad : ℕ) {at a b : ℕ} {t t₁ t₂ : List ℕ} → pad + length (decimal o) ≡ 4 → at ≤ length t

@@ -13,7 +13,7 @@ use Rattle.buffer.specs.declared.output.Output.{Output}
 use Rattle.buffer.specs.declared.output.Output.the-variants.{Refused}
 use Rattle.text.specs.Text.{space, lineFeed, decimal}
 use Rattle.reader.specs.Log.{Reading, readable, refused, operations}
-use Rattle.history.specs.History.{add, emptyRemove}
+use Rattle.history.specs.History.{add, emptyRemove, noKind}
 use Rattle.history.specs.Operations.{callIndex, returnIndex, historyOf}
 
 -- a text in a field of a width, at its right end and at its left end
@@ -28,8 +28,8 @@ unfoldable pub joined : (ℕ → List ℕ) → ℕ → List ℕ
 joined text zero = []
 joined text (suc n) = joined text n ++ text n
 
--- "A, R or E (empty remove) and the value in decimal without leading zeros .. E has no value." (A readable log has no remove without
--- return.)
+-- "A, R or E (empty remove) and the value in decimal without leading zeros .. E has no value." Of a remove that has not returned, change 4
+-- says: "The page shows a lone R."
 abbrev pub letterOf : ℕ → ℕ
 letterOf kind =
     -- A
@@ -40,7 +40,7 @@ letterOf kind =
     82
 
 abbrev pub labelOf : ℕ → ℕ → List ℕ
-labelOf kind value = letterOf kind ∷ (if eqb kind emptyRemove then [] else decimal value)
+labelOf kind value = letterOf kind ∷ (if eqb kind emptyRemove then [] else if eqb kind noKind then [] else decimal value)
 
 -- the characters # and .
 abbrev pub hash : ℕ

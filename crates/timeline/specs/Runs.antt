@@ -1,5 +1,6 @@
 -- Document 01, "Runs", drawn as pages: first all that have a verdict there, in the document's order, then some with value 0, with longer
--- values and with operation numbers of two digits. What a run and a row are is said in the crate history.
+-- values and with operation numbers of two digits, and last some with a remove that does not return. What a run and a row are is said in
+-- the crate history.
 use Prim.Native.Nat.{ℕ}
 use Prim.Native.String.{String}
 use mathlib.Core.Path.{_≡_}
@@ -193,6 +194,30 @@ pages =
           "   8 A8          ........###" ∷
           "   9 A9          .........##" ∷
           "  10 A10         ..........#" ∷
+          [];
+    } ∷
+    -- R(: "The page shows a lone R" (document 02, change 4); its span runs to the last record
+    record {
+      run = (0, CallRemove) ∷ [];
+      says =
+          "   0 R           #" ∷
+          [];
+    } ∷
+    -- A7( A7) R(
+    record {
+      run = (0, CallAdd 7) ∷ (0, ReturnAdd) ∷ (1, CallRemove) ∷ [];
+      says =
+          "   0 A7          ##." ∷
+          "   1 R           ..#" ∷
+          [];
+    } ∷
+    -- Ra( A0( A0) Rb( Rb0): Ra has no value, and Rb has 0
+    record {
+      run = (0, CallRemove) ∷ (1, CallAdd 0) ∷ (1, ReturnAdd) ∷ (2, CallRemove) ∷ (2, ReturnRemove (Value 0)) ∷ [];
+      says =
+          "   0 R           #####" ∷
+          "   1 A0          .##.." ∷
+          "   2 R0          ...##" ∷
           [];
     } ∷
     []

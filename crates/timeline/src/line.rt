@@ -8,6 +8,7 @@ ghost use Rattle.timeline.specs.Spans.{leftBytes, rightBytes, leftPart, 
 use crate::spans::PAGE_RECORDS;
 use history::operations::ADD;
 use history::operations::EMPTY_REMOVE;
+use history::operations::NO_KIND;
 use text::text::SPACE;
 use text::text::end_line;
 use text::text::put_byte;
@@ -21,7 +22,7 @@ const DOT: u8 = b'.';
 
 const HASH: u8 = b'#';
 
-// A for an add, R for a remove, E for an empty one.
+// A for an add, R for a remove, also for one that has not returned, E for an empty one.
 fn letter_of(kind: u32) -> u8
     ensures { λ r. ⌜ r ≡ letterOf kind ⌝ }
 {
@@ -32,13 +33,16 @@ fn letter_of(kind: u32) -> u8
     }
 }
 
-// Writes the label of an operation: its letter and, unless it is an empty remove, its value.
+// Writes the label of an operation: its letter and, unless it is a remove that came back empty or has not returned, its value.
 fn put_label(text: &mut [u8], at: usize, kind: u32, value: u32) -> usize
     requires { ⌜ at + 11 ≤ length (now text) ⌝ }
     ensures { λ next. ⌜ Puts (labelOf kind value) at (now (text .entry)) next (now (text .exit)) ⌝ }
 {
     let digits = put_byte(text, at, letter_of(kind));
     if kind == EMPTY_REMOVE {
+        return digits;
+    }
+    if kind == NO_KIND {
         return digits;
     }
     put_number(text, digits, value as usize)

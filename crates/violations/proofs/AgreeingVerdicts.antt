@@ -13,9 +13,10 @@ use Rattle.history.specs.Linearization.{placed, Listed}
 use Rattle.history.specs.Table.{Agree}
 use Rattle.history.proofs.Agreeing.{agree-sym, agree-linearization, agree-complete}
 use Rattle.violations.specs.Violations.{Is, Removed, Occurs}
-use Rattle.violations.specs.Fates.{taking, Free, Fate, takes-value, Succeeds, NoneSucceeds, left-out, took}
+use Rattle.violations.specs.Fates.{taking, Free, Fate, takes-value, Succeeds, NoneSucceeds, Settled, left-out, took}
 use Rattle.violations.specs.Verdict.{FirstViolation, JudgedLinearization, Verdict, CompleteVerdict}
-use Rattle.violations.proofs.Agreeing.{agree-known, agree-is, agree-removed, agree-never, agree-occurs}
+use Rattle.violations.specs.Found.{FoundSettled}
+use Rattle.violations.proofs.Agreeing.{agree-known, agree-is, agree-removed, agree-never, agree-occurs, agree-found}
 use Rattle.violations.proofs.CellAgreeing.{agree-cell-occurs}
 
 agree-occurs-in : (object : Object) {h k : History} → Agree h k → {n : ℕ} {listed : List ℕ} → Occurs object h n listed → Occurs object k n listed
@@ -77,14 +78,28 @@ agree-free a free = record { adds = agree-is a (free .adds); unremoved = agree-n
 agree-succeeds : {h k : History} → Agree h k → Succeeds h → Succeeds k
 agree-succeeds a (order, legal) = (order, agree-complete a legal)
 
+-- They settle for histories that agree.
+agree-settled : (object : Object) {h k j : History} → Agree h k → Settled object h j → (j' : History) × Settled object k j' × Agree j j'
+agree-settled object {k = k} a left-out = (k, left-out, a)
+agree-settled Queue {k = k} a (took {o = o} {a = b} is free fails lower) = (
+  taking k o b,
+  took
+      (agree-is a is)
+      (agree-free a free)
+      (λ s. fails (agree-succeeds (agree-sym a) s))
+      (λ c less free' s. lower c less (agree-free (agree-sym a) free') (agree-succeeds (agree-taking (agree-sym a) o (free' .adds .known)) s)),
+  agree-taking a o (free .adds .known),
+)
+
+pub agree-found-settled : {h k : History} → Agree h k → {order : List ℕ} → FoundSettled h order → FoundSettled k order
+agree-found-settled a f =
+    let (j, settles, agree) = agree-settled Queue a (f .settles) in
+    record { settled = j; settles = settles; judged = agree-judged agree (f .judged); found = agree-found agree (f .found) }
+
 pub agree-verdict : (object : Object) {h k : History} → Agree h k → {byte : ℕ} {listed : List ℕ} → Verdict object h byte listed → Verdict object k byte listed
-agree-verdict object a (Verdict.linearization left-out x) = Verdict.linearization left-out (agree-judged a x)
-agree-verdict Queue a (Verdict.linearization (took {o = o} is free fails lower) x) = Verdict.linearization (took
-    (agree-is a is)
-    (agree-free a free)
-    (λ s. fails (agree-succeeds (agree-sym a) s))
-    (λ c less free' s. lower c less (agree-free (agree-sym a) free') (agree-succeeds (agree-taking (agree-sym a) o (free' .adds .known)) s))
-    ) (agree-judged (agree-taking a o (free .adds .known)) x)
+agree-verdict object a (Verdict.linearization s x) =
+    let (j, settles, agree) = agree-settled object a s in
+    Verdict.linearization settles (agree-judged agree x)
 agree-verdict object {h} {k} a (Verdict.violation f none) = Verdict.violation (agree-first-violation object a f) (λ fate fate' s. go fate' s none)
   where
     go : {object : Object} {fate : History} → Fate object k fate → Succeeds fate → NoneSucceeds object h → ⊥

@@ -69,10 +69,10 @@ taking-takes {h} {o} {a} pending adds =
 
 module _ {h k : History} {o : ℕ} (c : ComesBack h k o) where
   -- an operation that has a kind in h is not o, and has the same kind in k
-  kinded-other : {kind p : ℕ} → Is h kind p → add ≤ kind → p ≡ o → ⊥
+  pub kinded-other : {kind p : ℕ} → Is h kind p → add ≤ kind → p ≡ o → ⊥
   kinded-other is l e = omega (arith, ap (h .kind) e, is .kinds, c .pending .kinds)
 
-  is-there : {kind p : ℕ} → Is h kind p → add ≤ kind → Is k kind p
+  pub is-there : {kind p : ℕ} → Is h kind p → add ≤ kind → Is k kind p
   is-there {p = p} is l = record { known = omega (arith, is .known, c .count); kinds = c .kind p (kinded-other is l) ∙ is .kinds }
 
   add-other : {p : ℕ} → Is k add p → p ≡ o → ⊥

@@ -1,6 +1,6 @@
 -- The theorems of this crate, for everything above: stated here, or passed on from the file that proves them. The histories of
--- readable logs are lawful, and no remove is pending in them (`history-lawful`, `history-returned` of the crate history), so what is
--- said of a queue holds of every readable log.
+-- readable logs are lawful, and at most one remove is pending in them (`history-lawful`, `history-lone` of the crate history), so what
+-- is said of a queue holds of every readable log.
 use Prim.Native.Nat.{ℕ}
 use native.Mathlib.Decide.{ℕ-discrete}
 use mathlib.Core.Path.{_≡_, sym, _∙_}
@@ -8,15 +8,14 @@ use mathlib.Core.Logic.{_⊎_, inl, inr, _↔_}
 use mathlib.Core.List.{List}
 use Rattle.history.specs.Each.{Each}
 use Rattle.history.specs.Object.{Object, Queue, Cell}
-use Rattle.history.specs.History.{History, RemovesReturned, Lawful}
+use Rattle.history.specs.History.{History, Lawful, Lone}
 use Rattle.history.specs.Linearization.{Linearization}
 use Rattle.history.specs.Sheet.{orderVerdict}
 use Rattle.violations.specs.Violations.{NoViolation}
 use Rattle.violations.specs.Verdict.{FirstViolation, SomeViolation, JudgedLinearization, CompleteVerdict, Verdict}
 use Rattle.violations.specs.Parts.{Part, Kept}
 use Rattle.violations.specs.Fates.{Unfated}
-use Rattle.violations.specs.Search.{Single}
-use Rattle.violations.specs.Found.{Found}
+use Rattle.violations.specs.Found.{FoundSettled}
 use Rattle.violations.proofs.Occurrences.{occurs-some}
 use Rattle.violations.proofs.Parts as parts
 -- "The lowest number that occurs is reported. Among its occurrences the lowest list": there is such an answer where a pattern
@@ -61,7 +60,7 @@ pub use Rattle.violations.proofs.Alike.{alike-sym, alike-part}
 -- Histories that agree on their operations are lawful together and have the same verdicts, and the search finds the same order in
 -- them.
 pub use Rattle.violations.proofs.Agreeing.{agree-lawful, agree-lone, agree-found}
-pub use Rattle.violations.proofs.AgreeingVerdicts.{agree-complete-verdict, agree-verdict}
+pub use Rattle.violations.proofs.AgreeingVerdicts.{agree-complete-verdict, agree-verdict, agree-found-settled}
 -- A remove of a queue that has not returned: a legal order exists exactly if there is one with it left out or with one of its
 -- fates; at most one fate can succeed where leaving it out fails, and only that of the add which returns first of those that are
 -- not removed, under patterns 4 and 6. The history with a fate is lawful.
@@ -70,9 +69,10 @@ pub use Rattle.violations.proofs.Fates.{ComesBack, taking-back, comes-b
 pub use Rattle.violations.proofs.Candidate.{fate-mends, fate-one, others-stay, none-helps, it-settles, it-helps, it-fails}
 -- Every history has a verdict, and two agree in the verdict byte and, with a pattern, in the operations that they list. With an
 -- order they have settled for one history, which is lawful and has a lowest order, and only one. The byte is 0 exactly if there is a
--- legal order; the order listed is one. Any other byte is that of a pattern. Histories that are alike have the same byte.
+-- legal order; the order listed is one, and lists an open add exactly if its value was removed. Any other byte is that of a pattern.
+-- Histories that are alike have the same byte.
 pub use Rattle.violations.proofs.Verdicts.{verdict, verdict-one, settled-one, settled-lawful, settled-lowest, settled-lowest-one}
-pub use Rattle.violations.proofs.Verdicts.{verdict-legal, verdict-exactly, pattern-of, alike-verdict}
+pub use Rattle.violations.proofs.Verdicts.{verdict-legal, verdict-pending, verdict-exactly, pattern-of, alike-verdict}
 -- If no remove of a queue is pending, a verdict is one on the history as it stands; of a cell every verdict is.
 pub use Rattle.violations.proofs.Verdicts.{returned-lone, complete-is-verdict, verdict-is-complete}
 pub use Rattle.violations.proofs.CompleteVerdicts.{complete-zero, complete-pattern}
@@ -97,30 +97,31 @@ pub cell-part-verdict : {h part : History} (p : Part h part) → Lawful h → La
     → {m n : ℕ} {xs ys : List ℕ} → FirstViolation Cell h m xs → Each (Kept p) xs → Verdict Cell part n ys → m ≡ n
 cell-part-verdict p lawful lawful' first kept v = part-verdict Cell p lawful lawful' tt first kept v
 
--- Of a queue's history in which no remove is pending: the verdict byte 0 is that of an order as the judge lists it,
-pub zero-is-linearization : {h : History} → RemovesReturned h → {byte : ℕ} {listed : List ℕ} → Verdict Queue h byte listed → byte ≡ orderVerdict
-    → JudgedLinearization Queue h listed
-zero-is-linearization returned v e = complete-zero (verdict-is-complete Queue returned v) e
-
--- there is a verdict whose order is the one that the search finds,
-pub found-verdict : {h : History} → Lawful h → RemovesReturned h
-    → (byte : ℕ) × (listed : List ℕ) × Verdict Queue h byte listed × (byte ≡ orderVerdict → Found h listed)
-found-verdict {h} lawful returned = go (first-violation Queue h)
+-- A queue's history has a verdict whose order is the one that the search finds,
+pub found-verdict : {h : History} → Lawful h → Lone h
+    → (byte : ℕ) × (listed : List ℕ) × Verdict Queue h byte listed × (byte ≡ orderVerdict → FoundSettled h listed)
+found-verdict {h} lawful lone = let (byte, listed, v) = verdict Queue lawful lone in go v
   where
-    go : SomeViolation Queue h ⊎ NoViolation Queue h → (byte : ℕ) × (listed : List ℕ) × Verdict Queue h byte listed × (byte ≡ orderVerdict → Found h listed)
-    go (inl (n, listed, first)) = (n, listed, complete-is-verdict Queue returned (CompleteVerdict.violation first), λ e. absurd (occurs-some (first .occurs) e))
-    go (inr clean) =
-        let (order, judged, found) = found-exists lawful clean in
-        (orderVerdict, order, complete-is-verdict Queue returned (CompleteVerdict.linearization judged), λ e. found)
+    go : {byte : ℕ} {listed : List ℕ} → Verdict Queue h byte listed
+        → (byte : ℕ) × (listed : List ℕ) × Verdict Queue h byte listed × (byte ≡ orderVerdict → FoundSettled h listed)
+    go {byte} {listed} (Verdict.violation f none) = (byte, listed, Verdict.violation f none, λ e. absurd (occurs-some (f .occurs) e))
+    go {listed = listed} (Verdict.linearization {settled = k} s x) =
+        let there = settled-lawful lawful lone s in
+        let (order, judged, found) = found-exists there (judged-exactly Queue there .0 (listed, x)) in
+        (orderVerdict, order, Verdict.linearization s judged, λ e. record { settled = k; settles = s; judged = judged; found = found })
+
+-- only one order is listed,
+pub found-settled-one : {h : History} → Lawful h → Lone h → {xs ys : List ℕ} → FoundSettled h xs → FoundSettled h ys → xs ≡ ys
+found-settled-one lawful lone f g =
+    let there = settled-lawful lawful lone (f .settles) in
+    let single = tables-match (f .found .reaches) (λ number listed l. excluded there (judged-complete (f .judged))) .single in
+    found-one single (f .found) (rw (← (settled-one lone (f .settles) (f .judged) (g .settles) (g .judged))) at (g .found))
 
 -- and two verdicts list the same operations, if an order is the one that the search finds.
-pub listed-one : {h : History} → Lawful h → RemovesReturned h → {m n : ℕ} {xs ys : List ℕ}
-    → Verdict Queue h m xs → (m ≡ orderVerdict → Found h xs) → Verdict Queue h n ys → (n ≡ orderVerdict → Found h ys) → xs ≡ ys
-listed-one {h} lawful returned {m} {n} {xs} {ys} v found w found' = go (verdict-one lawful v w) (ℕ-discrete m orderVerdict)
+pub listed-one : {h : History} → Lawful h → Lone h → {m n : ℕ} {xs ys : List ℕ}
+    → Verdict Queue h m xs → (m ≡ orderVerdict → FoundSettled h xs) → Verdict Queue h n ys → (n ≡ orderVerdict → FoundSettled h ys) → xs ≡ ys
+listed-one lawful lone {m} {n} {xs} {ys} v found w found' = let (same, lists) = verdict-one lawful v w in go same lists (ℕ-discrete m orderVerdict)
   where
-    single : m ≡ orderVerdict → Single h
-    single e = tables-match (found e .reaches) (λ number listed l. excluded lawful (judged-complete (zero-is-linearization returned v e))) .single
-
-    go : (m ≡ n) × ((m ≡ orderVerdict → ⊥) → xs ≡ ys) → Dec (m ≡ orderVerdict) → xs ≡ ys
-    go (same, lists) (yes e) = found-one (single e) (found e) (found' (sym same ∙ e))
-    go (same, lists) (no violation) = lists violation
+    go : m ≡ n → ((m ≡ orderVerdict → ⊥) → xs ≡ ys) → Dec (m ≡ orderVerdict) → xs ≡ ys
+    go same lists (no violation) = lists violation
+    go same lists (yes e) = found-settled-one lawful lone (found e) (found' (sym same ∙ e))

@@ -131,8 +131,8 @@ computed-settles h (leaves-out (violation number listed)) ((lawful, lone), (firs
 computed-settles h (lets-take o a listed) ((lawful, lone), (c, ((n, pattern, first), judged))) =
     (it-settles lawful lone (c .pending) first (c .free) (λ b free. c .soonest b (free .adds .known) free), judged)
 
-pub open-runs-correct : Each (Correct Settles) openRuns
-unfolding decide each? computed? history
-open-runs-correct =
-    each-map {P = Correct Computed} {Q = Correct Settles} (λ row. computed-settles _ (row .says)) openRuns
-    (rows-correct computed? openRuns refl)
+pub open-runs-hold : Each (Holds Settles) openRuns
+unfolding decide each? computed? history reading
+open-runs-hold =
+    each-map {P = Holds Computed} {Q = Holds Settles} (λ row h. record { read = h .read; right = computed-settles _ (row .says) (h .right) }) openRuns
+    (rows-hold computed? openRuns refl refl)

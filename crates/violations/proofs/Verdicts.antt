@@ -2,17 +2,18 @@
 -- byte; and where no remove has a fate, the verdict is the one on the history as it stands.
 use Prim.Native.Nat.{ℕ, _<_}
 use native.Mathlib.Omega.{arith}
+use native.Mathlib.Decide.{ℕ-discrete}
 use mathlib.Core.Path.{_≡_, refl, sym}
 use mathlib.Core.Logic.{_⊎_, inl, inr, _↔_, Dec·and, Dec·not}
 use mathlib.Core.List.{List}
 use Rattle.reader.specs.Search.{None}
 use Rattle.reader.proofs.Search.{Lowest, lowest}
 use Rattle.history.specs.Object.{Object, Queue, Cell}
-use Rattle.history.specs.History.{History, add, noKind, RemovesReturned, Lawful, Lone, LoneIn}
-use Rattle.history.specs.Linearization.{Linearization}
+use Rattle.history.specs.History.{History, add, noKind, Returned, RemovesReturned, Lawful, Lone, LoneIn}
+use Rattle.history.specs.Linearization.{Listed, Linearization}
 use Rattle.history.specs.Sheet.{orderVerdict}
 use Rattle.history.proofs.Deciding.{equivalent?}
-use Rattle.violations.specs.Violations.{Is, NoViolation}
+use Rattle.violations.specs.Violations.{Is, Removed, NoViolation}
 use Rattle.violations.specs.Verdict.{JudgedLinearization, LowestLinearization, FirstViolation, SomeViolation, CompleteVerdict, Verdict}
 use Rattle.violations.specs.Parts.{Alike}
 use Rattle.violations.specs.Fates.{taking, Free, Fate, takes-value, Succeeds, NoneSucceeds, Settled, left-out, took, Unfated}
@@ -23,9 +24,9 @@ use Rattle.violations.proofs.FirstViolations.{first-violation, first-vi
 use Rattle.violations.proofs.CellExcluding.{cell-excluded}
 use Rattle.violations.proofs.CompleteVerdicts.{judged-excluded, judged-exactly, complete-exactly, lowest-exists, lowest-one, complete-verdict, complete-zero}
 use Rattle.violations.proofs.Alike.{alike-sym, alike-complete-verdict}
-use Rattle.violations.proofs.Fates.{taking-back, comes-back-lawful}
+use Rattle.violations.proofs.Fates.{ComesBack, taking-back, taking-takes, kinded-other, is-there, remove-there, remove-here, comes-back-lawful, takes-one}
 use Rattle.violations.proofs.OpenRemoves.{back-linearization, linearization-exactly}
-use Rattle.violations.proofs.Candidate.{none-succeeds}
+use Rattle.violations.proofs.Candidate.{none-succeeds, taken-returned}
 use Rattle.violations.proofs.AlikeFates.{alike-is, alike-free, taking-alike}
 
 -- A cell has no fates.
@@ -140,6 +141,27 @@ verdict-legal object lawful lone (Verdict.linearization left-out x) e = x .legal
 verdict-legal Queue lawful lone (Verdict.linearization (took {a = a} is free fails lower) x) e =
     back-linearization (taking-back lone is a) lawful (judged-complete x)
 verdict-legal object lawful lone (Verdict.violation f none) e = absurd (occurs-some (f .occurs) e)
+
+-- lists an open add exactly if its value was removed (the value that a remove without return has taken is that of an add that has returned),
+pub verdict-pending : (object : Object) {h : History} → Lawful h → LoneIn object h → {byte : ℕ} {listed : List ℕ} → Verdict object h byte listed
+    → byte ≡ orderVerdict → (a : ℕ) → Is h add a → (Returned h a → ⊥) → Listed listed a ↔ Removed h a
+verdict-pending object lawful lone (Verdict.linearization left-out x) e a adds pending = x .pending a adds pending
+verdict-pending Queue {h} lawful lone (Verdict.linearization {listed = listed} (took {o = o} {a = b} is free fails lower) x) e a adds pending =
+    let exactly = x .pending a (is-there c adds (omega arith)) (λ back. pending (omega (arith, c .ret a (kinded-other c adds (omega arith))))) in
+    (λ l. by (exactly .0 l), λ (r, out). exactly .1 (r, remove-there c adds out))
+  where
+    c : ComesBack h (taking h o b) o
+    c = taking-back lone is b
+
+    by : Removed (taking h o b) a → Removed h a
+    by (r, out) = go (ℕ-discrete r o)
+      where
+        go : Dec (r ≡ o) → Removed h a
+        go (no n) = (r, remove-here c adds out n)
+        go (yes same) =
+            let taken : a ≡ b = takes-one lawful c adds (free .adds) (rw same at out) (taking-takes is (free .adds)) in
+            absurd (pending (rw taken (taken-returned lawful lone is fails free (listed, judged-complete x))))
+verdict-pending object lawful lone (Verdict.violation f none) e a adds pending = absurd (occurs-some (f .occurs) e)
 
 -- and the verdict byte is 0 exactly if there is one.
 pub verdict-exactly : (object : Object) {h : History} → Lawful h → LoneIn object h → {byte : ℕ} {listed : List ℕ} → Verdict object h byte listed

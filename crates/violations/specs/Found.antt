@@ -5,7 +5,10 @@ use Prim.Native.Nat.{ℕ, _≤_, _<_}
 use mathlib.Core.Path.{_≡_}
 use mathlib.Core.List.{List, [], _∷_, _++_}
 use Rattle.history.specs.History.{History, add, emptyRemove}
+use Rattle.history.specs.Object.{Queue}
 use Rattle.violations.specs.Violations.{Is, RemoveOf, Gap, Reaches, Covered}
+use Rattle.violations.specs.Fates.{Settled}
+use Rattle.violations.specs.Verdict.{JudgedLinearization}
 use Rattle.violations.specs.Greedy.{Left, Continues}
 
 -- An add may enter the queue: its remove is called before the remove of any add that is left returns, and no later than the
@@ -33,3 +36,10 @@ pub record Found (h : History) (order : List ℕ) : Type 0 where
   pub reaches : (a : ℕ) → Is h add a → Reaches h a (reach a)
   pub gaps : (e : ℕ) → Is h emptyRemove e → LastGap h e (gap e)
   pub continues : Continues h (Serves h reach gap) [] [] order
+
+-- The order that is listed where a remove may have not returned: what becomes of it is settled first, and then the search finds the order.
+pub record FoundSettled (h : History) (order : List ℕ) : Type 0 where
+  pub settled : History
+  pub settles : Settled Queue h settled
+  pub judged : JudgedLinearization Queue settled order
+  pub found : Found settled order

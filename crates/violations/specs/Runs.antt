@@ -231,7 +231,7 @@ Settles h (leaves-out (linearization listed)) = JudgedLinearization Queue h list
 Settles h (leaves-out (violation number listed)) = Verdict Queue h number listed
 Settles h (lets-take o a listed) = Settled Queue h (taking h o a) × JudgedLinearization Queue (taking h o a) listed
 
--- All but the first end with a return, so that no call stands at the last position, and the remove may come back there.
+-- No record stands at the last position of a run, so the remove may come back there, also after a call that is the last record.
 abbrev pub openRuns : List (Row Settling)
 openRuns =
     -- R(: order, k = 0
@@ -253,6 +253,13 @@ openRuns =
       run =
           (0, CallAdd 1) ∷ (0, ReturnAdd) ∷ (1, CallAdd 2) ∷ (1, ReturnAdd) ∷
           (2, CallRemove) ∷ (3, CallRemove) ∷ (3, ReturnRemove (Value 2)) ∷ [];
+      says = lets-take 2 0 (0 ∷ 1 ∷ 2 ∷ 3 ∷ []);
+    } ∷
+    -- A1( A1) A2( A2) Ra( R( R2) A3(: the same, and the last record is a call; the open add is not listed
+    record {
+      run =
+          (0, CallAdd 1) ∷ (0, ReturnAdd) ∷ (1, CallAdd 2) ∷ (1, ReturnAdd) ∷
+          (2, CallRemove) ∷ (3, CallRemove) ∷ (3, ReturnRemove (Value 2)) ∷ (4, CallAdd 3) ∷ [];
       says = lets-take 2 0 (0 ∷ 1 ∷ 2 ∷ 3 ∷ []);
     } ∷
     -- A1( A2( A2) A3( A3) Ra( R( R3) A1): Ra takes 2 and not 1, whose add is lower but returns later; order 1 2 3 4 0

@@ -1,11 +1,13 @@
 //! Holds the archive of a log against the model's: the sheet that the judge writes and, with a
-//! pattern, the excerpt.
+//! pattern, the excerpt. With an open remove "the archive keeps the sheet alone".
 
 use crate::hex::show;
 use crate::library::outcomes::{excerpt_made, judged};
 use crate::library::replay;
-use crate::model::history::{operations, Operation};
-use crate::model::linearization::{is_linearization, lists_pending_adds_exactly_if_removed};
+use crate::model::history::{has_pending_remove, operations, Operation};
+use crate::model::judged_log::is_judged_order;
+use crate::model::judgement::{judgement, Judgement};
+use crate::model::linearization::is_linearization;
 use crate::model::projection::excerpted;
 use crate::model::record::Record;
 use crate::model::search::has_linearization;
@@ -18,6 +20,8 @@ use crate::{refused, YES};
 #[derive(Debug, Default)]
 pub struct Archives {
     seen: [u64; 7],
+    /// How many of the orders list an open remove.
+    took: u64,
 }
 
 impl Archives {
@@ -29,13 +33,14 @@ impl Archives {
     pub fn compare(&mut self, log: &[u8]) -> u8 {
         let records = reader::read(log).expect("a readable log");
         let operations = operations(&records);
-        let verdict = match first_violation(&operations) {
-            Some(violation) => {
+        let verdict = match judgement(&operations) {
+            Judgement::Pattern(violation) => {
                 compare_violation(log, &records, &violation);
                 violation.number
             }
-            None => {
-                compare_order(log, &operations);
+            Judgement::Order(settled) => {
+                compare_order(log, &operations, &settled);
+                self.took += u64::from(settled != operations);
                 ORDER
             }
         };
@@ -61,6 +66,11 @@ impl Archives {
         self.seen
     }
 
+    /// How many orders were seen that list an open remove.
+    pub fn took(&self) -> u64 {
+        self.took
+    }
+
     /// Asserts that each verdict was seen as often as its floor says: an order first, then 1 to 6.
     pub fn assert_at_least(&self, floors: [u64; 7]) {
         for (verdict, (seen, floor)) in self.seen.iter().zip(floors).enumerate() {
@@ -81,11 +91,30 @@ pub fn verdict_of(records: &[Record]) -> (u8, Vec<u16>) {
     verdict_on(&sheet).expect("the form of a sheet")
 }
 
-/// The sheet must be the pattern's, byte for byte, and so must the excerpt. That is "judged by
-/// itself when it is handed in as a log", and the pattern's number must be the same.
+/// The sheet must be the pattern's, byte for byte, and so must the excerpt.
 fn compare_violation(log: &[u8], records: &[Record], violation: &Violation) {
     let sheet = violation_sheet(violation);
     assert_eq!(judged(log), Ok(sheet), "left: judged, of {}", show(log));
+    match has_pending_remove(&operations(records)) {
+        true => assert_no_excerpt(log, 32),
+        false => compare_excerpt(log, records, violation),
+    }
+}
+
+/// Asserts that there is no excerpt of the log, for this reason.
+fn assert_no_excerpt(log: &[u8], number: u32) {
+    let refusal = Err(refused(number, 0));
+    assert_eq!(
+        excerpt_made(log),
+        refusal,
+        "left: the excerpt of {}",
+        show(log)
+    );
+}
+
+/// An excerpt is "judged by itself when it is handed in as a log", and the pattern's number must be
+/// the same.
+fn compare_excerpt(log: &[u8], records: &[Record], violation: &Violation) {
     let kept = excerpted(records, violation);
     let excerpt = writer::log(&kept);
     assert_eq!(
@@ -104,10 +133,10 @@ fn compare_violation(log: &[u8], records: &[Record], violation: &Violation) {
     );
 }
 
-/// The sheet must tell a legal order; which one is the judge's choice. It "lists an open add
-/// exactly if its value was removed". Replay says yes to it, and there is nothing to make an
-/// excerpt of.
-fn compare_order(log: &[u8], operations: &[Operation]) {
+/// The sheet must tell a legal order; which one is the judge's choice, but not over which operations:
+/// those are told as the judge goes by them, an open remove as left out or as the remove of the value
+/// that it took. Replay says yes to the order, and there is nothing to make an excerpt of.
+fn compare_order(log: &[u8], operations: &[Operation], settled: &[Operation]) {
     let sheet = judged(log).unwrap_or_else(|refusal| panic!("{refusal:?} to {}", show(log)));
     let order = order_on(&sheet)
         .unwrap_or_else(|| panic!("{} is no order, of {}", show(&sheet), show(log)));
@@ -117,11 +146,13 @@ fn compare_order(log: &[u8], operations: &[Operation]) {
         show(log)
     );
     assert!(
-        lists_pending_adds_exactly_if_removed(operations, &order),
-        "{order:?} has the wrong open adds of {}",
+        is_judged_order(settled, &order),
+        "{order:?} is not one of the judge for {}",
         show(log)
     );
     assert_eq!(replay(log, &sheet), YES, "{order:?} for {}", show(log));
-    let refusal = Err(refused(23, 0));
-    assert_eq!(excerpt_made(log), refusal, "of {}", show(log));
+    match has_pending_remove(operations) {
+        true => assert_no_excerpt(log, 32),
+        false => assert_no_excerpt(log, 23),
+    }
 }

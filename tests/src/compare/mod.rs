@@ -4,6 +4,7 @@
 
 pub mod archive;
 pub mod buffer_lengths;
+pub mod counts;
 pub mod every_order;
 pub mod narrowing;
 pub mod page;

@@ -1,16 +1,17 @@
 //! Holds the pages that the library writes against the model's.
 
+use crate::compare::counts::Counts;
 use crate::hex::show;
 use crate::library::guarded::written_twice;
 use crate::library::outcomes::{page_made, PAGE_ROOM};
 use crate::library::page;
 use crate::model::page::expected;
-use crate::{answered, Answer, Outcome, NUMBERS};
+use crate::{answered, Answer, Outcome};
 
-/// How often each answer was given: at 0 accepted, at the others the refusals of that number.
+/// How often each answer was given.
 #[derive(Debug, Default)]
 pub struct Pages {
-    seen: [u64; NUMBERS],
+    seen: Counts,
 }
 
 impl Pages {

@@ -2,6 +2,7 @@
 //! if that is wanted.
 
 use crate::compare::archive::Archives;
+use crate::compare::counts::Counts;
 use crate::compare::narrowing::compare_some_narrowing;
 use crate::compare::page::Pages;
 use crate::hex::show;
@@ -9,12 +10,12 @@ use crate::library::guarded::written;
 use crate::library::{check, excerpt, judge, narrow, page, replay};
 use crate::model::sheet::sheet;
 use crate::model::{linearization, reader};
-use crate::{refused, Answer, NUMBERS};
+use crate::{refused, Answer};
 
-/// How often check gave each answer: at 0 accepted logs, at the others the refusals of that number.
+/// How often check gave each answer.
 #[derive(Debug, Default)]
 pub struct Tally {
-    seen: [u64; NUMBERS],
+    seen: Counts,
     entries: Entries,
     archives: Archives,
     pages: Pages,
@@ -91,7 +92,7 @@ impl Tally {
     }
 
     pub fn total(&self) -> u64 {
-        self.seen.iter().sum()
+        self.seen.total()
     }
 
     /// Asserts that each answer was seen as often as its floor says: accepted first, then 1 to 10.

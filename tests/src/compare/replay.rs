@@ -1,16 +1,17 @@
 //! Holds replay against the model's test of orders.
 
+use crate::compare::counts::Counts;
 use crate::hex::show;
 use crate::library::replay;
 use crate::model::linearization;
-use crate::{Answer, NO, NUMBERS, YES};
+use crate::{Answer, NO, YES};
 
 /// How often replay gave each answer: yes, no, and the refusals by their numbers.
 #[derive(Debug, Default)]
 pub struct Replays {
     yes: u64,
     no: u64,
-    refused: [u64; NUMBERS],
+    refused: Counts,
 }
 
 impl Replays {

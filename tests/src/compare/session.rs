@@ -1,13 +1,14 @@
 //! Holds sessions of the library against the model's: after every call the answer, what was
 //! written, the session and every byte of its buffer.
 
+use crate::compare::counts::Counts;
 use crate::hex::show;
 use crate::library::guarded::FILLS;
 use crate::library::guarded_session::GuardedSession;
 use crate::library::outcomes::{excerpt_made, judged};
 use crate::model::judged_log::JudgedLog;
 use crate::model::session::State;
-use crate::{Answer, Outcome, NUMBERS};
+use crate::{Answer, Outcome};
 
 /// A session of the library and the one that it must be.
 #[derive(Clone)]
@@ -153,9 +154,9 @@ pub enum Entry {
     Excerpt,
 }
 
-/// How often each entry gave each answer: at 0 accepted, at the others the refusals of that number.
+/// How often each entry gave each answer.
 #[derive(Debug, Default)]
-pub struct Seen([[u64; NUMBERS]; 5]);
+pub struct Seen([Counts; 5]);
 
 impl Seen {
     pub fn new() -> Seen {
@@ -168,7 +169,7 @@ impl Seen {
 
     /// Asserts that the entry gave answers of these numbers at least so often, and no others.
     pub fn assert_at_least(&self, entry: Entry, floors: &[(usize, u64)]) {
-        for (number, &seen) in self.0[entry as usize].iter().enumerate() {
+        for (number, seen) in self.0[entry as usize].by_number() {
             let floor = floors.iter().find(|floor| floor.0 == number);
             match floor {
                 Some(&(_, floor)) => assert!(

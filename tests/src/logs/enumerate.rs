@@ -6,10 +6,15 @@ use crate::logs::ticks::every_joining;
 use crate::model::record::{Event, Record, Removed};
 use crate::random::Random;
 
-/// Calls `visit` with every readable log of at most `most` records, up to the naming of clients and
-/// values, and with rising ticks only.
+/// Calls `visit` with every readable log of at most `most` records in which all removes return, up to
+/// the naming of clients and values, and with rising ticks only.
 pub fn every_log(most: usize, visit: &mut impl FnMut(&[Record])) {
     visit_from(&Partial::default(), most, visit);
+}
+
+/// The same for the logs in which one remove does not return. The two together are all readable ones.
+pub fn every_log_with_pending_remove(most: usize, visit: &mut impl FnMut(&[Record])) {
+    visit_from(&Partial::default().with_pending_remove(), most, visit);
 }
 
 /// The same logs with their ticks joined in every way: each record has the tick of the one before it
@@ -21,11 +26,19 @@ pub fn every_log_with_joined_ticks(most: usize, visit: &mut impl FnMut(&[Record]
 /// The logs of `every_log` in which each operation has a client of its own, which are far fewer. Who
 /// makes a call matters only to find its return.
 pub fn every_log_of_new_clients(most: usize, visit: &mut impl FnMut(&[Record])) {
-    let partial = Partial {
-        callers: Callers::New,
-        ..Partial::default()
-    };
-    visit_from(&partial, most, visit);
+    visit_from(&Partial::of_new_clients(), most, visit);
+}
+
+/// The same for the logs in which one remove does not return.
+pub fn every_log_of_new_clients_with_pending_remove(
+    most: usize,
+    visit: &mut impl FnMut(&[Record]),
+) {
+    visit_from(
+        &Partial::of_new_clients().with_pending_remove(),
+        most,
+        visit,
+    );
 }
 
 /// The same for those logs of new clients in which every operation returns, and every remove meets
@@ -34,22 +47,39 @@ pub fn every_log_of_paired_operations(most: usize, visit: &mut impl FnMut(&[Reco
     visit_from(&Partial::paired(), most, visit);
 }
 
+/// The same for the logs in which one remove does not return, and all other operations do.
+pub fn every_log_of_paired_operations_with_pending_remove(
+    most: usize,
+    visit: &mut impl FnMut(&[Record]),
+) {
+    visit_from(&Partial::paired().with_pending_remove(), most, visit);
+}
+
 fn visit_from(partial: &Partial, more: usize, visit: &mut impl FnMut(&[Record])) {
-    let to_return = partial.to_return();
-    if to_return == 0 {
+    let lacking = partial.lacking();
+    if lacking == 0 {
         visit(&partial.records);
     }
-    if 0 < more && to_return <= more {
+    if 0 < more && lacking <= more {
         for next in partial.extensions() {
             visit_from(&next, more - 1, visit);
         }
     }
 }
 
-/// A readable log that chance makes one record longer until it has at least `least`.
+/// A readable log that chance makes one record longer until it has at least `least`. All of its
+/// removes return.
 pub fn random_log(least: usize, random: &mut Random) -> Vec<Record> {
-    let mut partial = Partial::default();
-    while partial.records.len() < least || partial.to_return() > 0 {
+    random_from(Partial::default(), least, random)
+}
+
+/// The same for a log in which one remove does not return.
+pub fn random_log_with_pending_remove(least: usize, random: &mut Random) -> Vec<Record> {
+    random_from(Partial::default().with_pending_remove(), least, random)
+}
+
+fn random_from(mut partial: Partial, least: usize, random: &mut Random) -> Vec<Record> {
+    while partial.records.len() < least || partial.lacking() > 0 {
         partial = random.pick(&partial.extensions()).clone();
     }
     partial.records
@@ -57,11 +87,24 @@ pub fn random_log(least: usize, random: &mut Random) -> Vec<Record> {
 
 /// A log of `count` operations as `every_log_of_paired_operations` has them, by chance.
 pub fn random_log_of_paired_operations(count: usize, random: &mut Random) -> Vec<Record> {
-    let most = 2 * count;
-    let mut partial = Partial::paired();
+    random_paired(Partial::paired(), 2 * count, random)
+}
+
+/// A log of `count` operations as `every_log_of_paired_operations_with_pending_remove` has them, by
+/// chance.
+pub fn random_log_of_paired_operations_with_pending_remove(
+    count: usize,
+    random: &mut Random,
+) -> Vec<Record> {
+    let partial = Partial::paired().with_pending_remove();
+    random_paired(partial, 2 * count - 1, random)
+}
+
+/// Makes the paired operations by chance until there are so many records.
+fn random_paired(mut partial: Partial, most: usize, random: &mut Random) -> Vec<Record> {
     while partial.records.len() < most {
         let extensions = partial.extensions().into_iter();
-        let ending = extensions.filter(|next| next.records.len() + next.to_return() <= most);
+        let ending = extensions.filter(|next| next.records.len() + next.lacking() <= most);
         partial = random.pick_from(ending).expect("a call or a return");
     }
     partial.records
@@ -97,6 +140,8 @@ enum Client {
 struct Partial {
     callers: Callers,
     outcomes: Outcomes,
+    /// How many removes do not return.
+    pending_removes: usize,
     records: Vec<Record>,
     clients: Vec<Client>,
     /// For each value that has appeared, whether it was added.
@@ -104,23 +149,44 @@ struct Partial {
 }
 
 impl Partial {
-    /// No records, to become those of paired operations by new clients.
-    fn paired() -> Partial {
+    /// No records, to become those of operations by new clients.
+    fn of_new_clients() -> Partial {
         Partial {
             callers: Callers::New,
-            outcomes: Outcomes::Paired,
             ..Partial::default()
         }
     }
 
-    /// How many operations have to return before this is a log as it is wanted.
-    fn to_return(&self) -> usize {
-        let has_to = |client: &&Client| match client {
-            Client::Idle => false,
-            Client::Adding => self.outcomes == Outcomes::Paired,
-            Client::Removing => true,
+    /// No records, to become those of paired operations by new clients.
+    fn paired() -> Partial {
+        Partial {
+            outcomes: Outcomes::Paired,
+            ..Partial::of_new_clients()
+        }
+    }
+
+    /// The same, to become a log in which one remove does not return.
+    fn with_pending_remove(self) -> Partial {
+        Partial {
+            pending_removes: 1,
+            ..self
+        }
+    }
+
+    fn count(&self, at_work: Client) -> usize {
+        let is_at_it = |client: &&Client| **client == at_work;
+        self.clients.iter().filter(is_at_it).count()
+    }
+
+    /// How many records are lacking before this is a log as it is wanted: the returns of operations,
+    /// and the call of a remove that does not return.
+    fn lacking(&self) -> usize {
+        let removes = self.count(Client::Removing);
+        let adds = match self.outcomes {
+            Outcomes::Any => 0,
+            Outcomes::Paired => self.count(Client::Adding),
         };
-        self.clients.iter().filter(has_to).count()
+        adds + removes.abs_diff(self.pending_removes)
     }
 
     /// This with one more record, in every way. The last client and the last value are new ones.
@@ -205,5 +271,60 @@ impl Partial {
             self.added.push(false);
         }
         &mut self.added[value]
+    }
+}
+
+#[cfg(test)]
+mod tests {
+    use super::{
+        every_log, every_log_of_paired_operations_with_pending_remove,
+        every_log_with_pending_remove, random_log_of_paired_operations_with_pending_remove,
+        random_log_with_pending_remove,
+    };
+    use crate::model::history::{operations, Action, Operation};
+    use crate::model::reader;
+    use crate::model::record::Record;
+    use crate::model::writer::log;
+    use crate::random::Random;
+
+    /// How many removes of the log, which has to be readable, do not return.
+    fn pending_removes(records: &[Record]) -> usize {
+        assert!(reader::read(&log(records)).is_ok(), "{records:?}");
+        let is_pending = |operation: &Operation| operation.action == Action::PendingRemove;
+        let all = operations(records).into_iter();
+        all.filter(is_pending).count()
+    }
+
+    #[test]
+    fn one_remove_is_pending_or_none() {
+        let mut logs = [0; 3];
+        every_log(5, &mut |records| {
+            assert_eq!(pending_removes(records), 0);
+            logs[0] += 1;
+        });
+        every_log_with_pending_remove(5, &mut |records| {
+            assert_eq!(pending_removes(records), 1);
+            logs[1] += 1;
+        });
+        every_log_of_paired_operations_with_pending_remove(7, &mut |records| {
+            assert_eq!(pending_removes(records), 1);
+            logs[2] += 1;
+        });
+        assert_eq!(logs, [832, 779, 1982]);
+    }
+
+    #[test]
+    fn one_remove_is_pending_in_logs_by_chance() {
+        let mut random = Random::new(258);
+        for least in 0..60 {
+            let any = random_log_with_pending_remove(least, &mut random);
+            assert_eq!(pending_removes(&any), 1);
+            assert!(any.len() >= least);
+        }
+        for count in 1..30 {
+            let paired = random_log_of_paired_operations_with_pending_remove(count, &mut random);
+            assert_eq!(pending_removes(&paired), 1);
+            assert_eq!(operations(&paired).len(), count);
+        }
     }
 }

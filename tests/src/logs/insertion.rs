@@ -1,5 +1,6 @@
-//! Operations put into a log between its records: short runs in document 01's notation, and empty
-//! removes. The ticks of what is made rise with every record, so that all stand where they are put.
+//! Operations put into a log between its records: short runs in document 01's notation, empty removes,
+//! and a remove that does not return. The ticks of what is made rise with every record, so that all
+//! stand where they are put.
 
 use std::collections::HashSet;
 
@@ -65,9 +66,17 @@ pub fn with_empty_removes(records: &[Record], spans: &[Span]) -> Vec<Record> {
     rising(&all)
 }
 
+/// The records with the call of a remove put in right before the record with that index, or at the
+/// end. It is made by a new client and does not return.
+pub fn with_pending_remove(records: &[Record], at: usize) -> Vec<Record> {
+    let mut all = records.to_vec();
+    all.insert(at, call_remove(new_client(records), 0));
+    rising(&all)
+}
+
 #[cfg(test)]
 mod tests {
-    use super::{with_empty_removes, with_run};
+    use super::{with_empty_removes, with_pending_remove, with_run};
     use crate::model::record::{call_add, call_remove, return_add, return_empty, return_value};
 
     #[test]
@@ -83,6 +92,14 @@ mod tests {
         ];
         let parts = [(0, "A0("), (1, "A0) R("), (2, "R1)")];
         assert_eq!(with_run(&records, &parts), expected);
+    }
+
+    #[test]
+    fn a_pending_remove_is_put_in_at_its_place() {
+        let records = [call_add(5, 10, 1), return_add(5, 20)];
+        let expected = [call_add(5, 1, 1), call_remove(6, 2), return_add(5, 3)];
+        assert_eq!(with_pending_remove(&records, 1), expected);
+        assert_eq!(with_pending_remove(&records, 2)[2], call_remove(6, 3));
     }
 
     #[test]

@@ -9,7 +9,7 @@ use crate::model::record::{call_add, call_remove, return_add, return_empty, retu
 use crate::model::writer::log;
 use crate::{refused, Answer};
 
-/// What document 01 says of a run.
+/// What document 01 says of a run, or change 4 of document 02 of the one of a lone open remove.
 pub enum Verdict {
     /// An order. No other one over the same operations is legal, in these runs.
     Order(&'static [u16]),
@@ -21,8 +21,9 @@ use Verdict::{Order, Pattern};
 
 /// The runs of document 01 that the reader accepts, each with its number of operations and its
 /// verdict.
-pub const RUNS: [(&str, u32, Verdict); 15] = [
+pub const RUNS: [(&str, u32, Verdict); 16] = [
     ("", 0, Order(&[])),
+    ("R(", 1, Order(&[])),
     ("A7( A7) R( R7)", 2, Order(&[0, 1])),
     ("R( A7( R7) A7)", 2, Order(&[1, 0])),
     ("R( R7) A7( A7)", 2, Pattern(3, &[0, 1])),
@@ -97,7 +98,7 @@ pub fn refusals() -> Vec<(Vec<u8>, Answer)> {
         ),
         (log(&[add, return_empty(1, 5)]), refused(8, 1)),
         (log(&run("A7( A7) A7(")), refused(9, 2)),
-        (log(&run("A7( A7) R( R7) R(")), refused(10, 4)),
+        (log(&run("Ra( A7( A7) Rb( Rb7) Rc(")), refused(10, 5)),
     ]
 }
 

@@ -137,6 +137,22 @@ impl Run {
         }
     }
 
+    /// The run without the return record of one remove, if it has one. Its client calls nothing more,
+    /// so a new one goes on in its place. The order stays legal: the remove took the front value, or
+    /// there was none.
+    pub fn with_pending_remove(&self, random: &mut Random) -> Run {
+        let is_return = |&at: &usize| matches!(self.records[at].event, Event::ReturnRemove(_));
+        let mut run = self.clone();
+        if let Some(at) = random.pick_from((0..self.records.len()).filter(is_return)) {
+            let stays = run.records.remove(at).client;
+            let goes_on = new_client(&self.records);
+            let behind = run.records[at..].iter_mut();
+            let by_it = behind.filter(|record| record.client == stays);
+            by_it.for_each(|record| record.client = goes_on);
+        }
+        run
+    }
+
     /// The run with removes at its end, one after the other, that take what was left in the queue.
     pub fn drained(&self) -> Run {
         let mut run = self.clone();
@@ -178,7 +194,7 @@ fn left_in_queue(operations: &[Operation], order: &[u16]) -> VecDeque<u32> {
     for &number in order {
         match operations[usize::from(number)].action {
             Action::Add(value) => queue.push_back(value),
-            Action::Remove(_) => drop(queue.pop_front()),
+            Action::Remove(_) | Action::PendingRemove => drop(queue.pop_front()),
         }
     }
     queue

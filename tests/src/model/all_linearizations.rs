@@ -1,9 +1,10 @@
 //! All legal orders of a short log, found in another way than the test of one order: every
-//! operation takes effect at one moment between its call and its return, and a pending add behind
+//! operation takes effect at one moment between its call and its return, and a pending one behind
 //! its call or never. A queue is run along the ticks and all moments are tried. Within a tick all
 //! operations are called that the log calls there, then some take effect, and then those return that
-//! the log returns there. What a remove takes is held against the log when it returns; nothing here
-//! knows which operation precedes which.
+//! the log returns there. What a remove takes is held against the log when it returns, so that a
+//! pending one may take whatever is at the front, or nothing; nothing here knows which operation
+//! precedes which.
 
 use std::collections::{BTreeMap, BTreeSet};
 
@@ -133,6 +134,16 @@ mod tests {
         let found = linearizations(&run("A1( A2( R( R2)"));
         let orders: Vec<Vec<u16>> = found.into_iter().collect();
         assert_eq!(orders, [vec![1, 0, 2], vec![1, 2], vec![1, 2, 0]]);
+    }
+
+    #[test]
+    fn a_pending_remove_takes_the_front_if_there_is_one() {
+        let found = linearizations(&run("A1( A1) R("));
+        let orders: Vec<Vec<u16>> = found.into_iter().collect();
+        assert_eq!(orders, [vec![0], vec![0, 1]]);
+        let found = linearizations(&run("Ro( A1( A1) R( R-)"));
+        let orders: Vec<Vec<u16>> = found.into_iter().collect();
+        assert_eq!(orders, [[1, 0, 2]]);
     }
 
     #[test]

@@ -28,6 +28,10 @@ pub enum Action {
     Add(u32),
     /// Takes the value from the front, or meets an empty queue.
     Remove(Removed),
+    /// A remove that has not returned. "It may stand in an order once or be left out; where it
+    /// stands, it takes the front value if there is one and otherwise changes nothing." (Change 4 of
+    /// document 02.)
+    PendingRemove,
 }
 
 /// The operations of a readable log, in number order.
@@ -59,13 +63,11 @@ fn operation_called_at(records: &[Record], stamps: &[Stamp], call: usize) -> Opt
     let returned = (call + 1..records.len()).find(|&later| records[later].client == client);
     let action = match records[call].event {
         Event::CallAdd(value) => Action::Add(value),
-        Event::CallRemove => {
-            let returned = returned.expect("a readable log has no pending remove");
-            match records[returned].event {
-                Event::ReturnRemove(removed) => Action::Remove(removed),
-                event => panic!("{event:?} returns no remove"),
-            }
-        }
+        Event::CallRemove => match returned.map(|returned| records[returned].event) {
+            Some(Event::ReturnRemove(removed)) => Action::Remove(removed),
+            Some(event) => panic!("{event:?} returns no remove"),
+            None => Action::PendingRemove,
+        },
         Event::ReturnAdd | Event::ReturnRemove(_) => return None,
     };
     Some(Operation {
@@ -82,7 +84,14 @@ pub fn precedes(o: &Operation, p: &Operation) -> bool {
         .is_some_and(|returned| returned.tick < p.call.tick)
 }
 
-/// Whether some remove returned the value.
+/// Whether some remove is pending. A readable log has at most one.
+pub fn has_pending_remove(operations: &[Operation]) -> bool {
+    operations
+        .iter()
+        .any(|operation| operation.action == Action::PendingRemove)
+}
+
+/// Whether some remove took the value.
 pub fn is_removed(operations: &[Operation], value: u32) -> bool {
     let remove = Action::Remove(Removed::Value(value));
     operations
@@ -133,6 +142,15 @@ mod tests {
             ]
         );
         assert_eq!(preceding(&records), [(0, 2)]);
+    }
+
+    #[test]
+    fn a_remove_that_has_not_returned_is_pending() {
+        let records = [call_remove(7, 1), call_add(8, 2, 5), return_add(8, 3)];
+        let all = operations(&records);
+        assert_eq!(all[0].action, Action::PendingRemove);
+        assert_eq!(all[0].returned, None);
+        assert_eq!(preceding(&records), []);
     }
 
     #[test]

@@ -1,21 +1,23 @@
 //! The verdict on a readable log, and the sheet and the excerpt that tell it.
 
-use crate::model::history::{is_removed, operations, Action, Operation};
-use crate::model::linearization::{is_linearization, lists_pending_adds_exactly_if_removed};
+use crate::model::history::{has_pending_remove, operations, Operation};
+use crate::model::judgement::{judgement, Judgement};
+use crate::model::linearization::{
+    is_linearization, judged_operations, lists_what_the_judge_lists,
+};
 use crate::model::projection::excerpted;
 use crate::model::record::Record;
 use crate::model::search::has_linearization;
 use crate::model::sheet::{self, order_on, violation_sheet};
-use crate::model::violations::{first_violation, Violation};
 use crate::model::writer;
-use crate::{refused, Answer};
+use crate::{refused, Answer, Outcome};
 
 /// A readable log with the verdict on it.
 #[derive(Clone, Debug)]
 pub struct JudgedLog {
     records: Vec<Record>,
     operations: Vec<Operation>,
-    violation: Option<Violation>,
+    judgement: Judgement,
 }
 
 impl JudgedLog {
@@ -25,42 +27,34 @@ impl JudgedLog {
         // The search is quick for so few operations.
         const FEW: usize = 10;
         let operations = operations(&records);
-        let violation = first_violation(&operations);
+        let judgement = judgement(&operations);
         if operations.len() <= FEW {
-            assert_eq!(violation.is_none(), has_linearization(&operations));
+            let has_order = matches!(judgement, Judgement::Order(_));
+            assert_eq!(has_order, has_linearization(&operations));
         }
         JudgedLog {
             records,
             operations,
-            violation,
+            judgement,
         }
     }
 
     /// Whether this sheet tells the verdict. Which order is listed is left to the library.
     pub fn is_told_by(&self, sheet: &[u8]) -> bool {
-        match (&self.violation, order_on(sheet)) {
-            (Some(violation), _) => sheet == violation_sheet(violation),
-            (None, Some(order)) => {
-                order.len() == self.listed()
-                    && is_linearization(&self.operations, &order)
-                    && lists_pending_adds_exactly_if_removed(&self.operations, &order)
+        match (&self.judgement, order_on(sheet)) {
+            (Judgement::Pattern(violation), _) => sheet == violation_sheet(violation),
+            (Judgement::Order(settled), Some(order)) => {
+                is_linearization(&self.operations, &order) && is_judged_order(settled, &order)
             }
-            (None, None) => false,
+            (Judgement::Order(_), None) => false,
         }
     }
 
-    /// How many operations the sheet lists; of an order those that returned, and the open adds
-    /// whose values were removed.
+    /// How many operations the sheet lists.
     fn listed(&self) -> usize {
-        let is_listed = |operation: &&Operation| match operation.action {
-            Action::Add(value) => {
-                operation.returned.is_some() || is_removed(&self.operations, value)
-            }
-            Action::Remove(_) => true,
-        };
-        match &self.violation {
-            Some(violation) => violation.operations.len(),
-            None => self.operations.iter().filter(is_listed).count(),
+        match &self.judgement {
+            Judgement::Pattern(violation) => violation.operations.len(),
+            Judgement::Order(settled) => judged_operations(settled).len(),
         }
     }
 
@@ -76,9 +70,21 @@ impl JudgedLog {
         sheet::HEADER + 2 * self.listed()
     }
 
-    /// The excerpt; none if the verdict is an order.
-    pub fn excerpt(&self) -> Option<Vec<u8>> {
-        let violation = self.violation.as_ref()?;
-        Some(writer::log(&excerpted(&self.records, violation)))
+    /// The excerpt, or its refusal. "It refuses with 32 an excerpt of a log with an open remove,
+    /// before 23", whatever the verdict is.
+    pub fn excerpt(&self) -> Outcome {
+        if has_pending_remove(&self.operations) {
+            return Err(refused(32, 0));
+        }
+        match &self.judgement {
+            Judgement::Pattern(violation) => Ok(writer::log(&excerpted(&self.records, violation))),
+            Judgement::Order(_) => Err(refused(23, 0)),
+        }
     }
+}
+
+/// Whether the order is one of the judge's for operations of which no remove's fate is open: it is
+/// legal and lists what it has to.
+pub fn is_judged_order(settled: &[Operation], order: &[u16]) -> bool {
+    lists_what_the_judge_lists(settled, order) && is_linearization(settled, order)
 }

@@ -1,4 +1,5 @@
-//! Whether an order is legal (a linearization), written straight from document 01's "Legal orders".
+//! Whether an order is legal (a linearization), written straight from document 01's "Legal orders" and
+//! what change 4 of document 02 says of an open remove.
 
 use std::collections::VecDeque;
 
@@ -28,7 +29,8 @@ pub fn expected(log: &[u8], sheet: &[u8]) -> Answer {
     }
 }
 
-/// "It lists every returned operation exactly once, each open add at most once and nothing else."
+/// "It lists every returned operation exactly once, each open add at most once and nothing else." An
+/// open remove "may stand in an order once or be left out".
 fn lists_what_it_must(operations: &[Operation], order: &[u16]) -> bool {
     let known = |&number: &u16| usize::from(number) < operations.len();
     let often_enough = |(number, operation): (usize, &Operation)| {
@@ -50,7 +52,8 @@ fn keeps_precedence(operations: &[Operation], order: &[u16]) -> bool {
 }
 
 /// "Run from an empty queue, each add puts its value at the back, each remove with a value takes
-/// that value from the front and each empty remove meets an empty queue."
+/// that value from the front and each empty remove meets an empty queue." An open remove "takes the
+/// front value if there is one and otherwise changes nothing".
 fn runs_on_a_queue(operations: &[Operation], order: &[u16]) -> bool {
     let mut queue = VecDeque::new();
     order
@@ -62,18 +65,29 @@ fn runs_on_a_queue(operations: &[Operation], order: &[u16]) -> bool {
             }
             Action::Remove(Removed::Value(value)) => queue.pop_front() == Some(value),
             Action::Remove(Removed::Empty) => queue.is_empty(),
+            Action::PendingRemove => {
+                queue.pop_front();
+                true
+            }
         })
 }
 
-/// "The judge lists an open add exactly if its value was removed."
-pub fn lists_pending_adds_exactly_if_removed(operations: &[Operation], order: &[u16]) -> bool {
-    let mut numbered = (0..).zip(operations);
-    numbered.all(|(number, operation)| match *operation {
-        Operation {
-            action: Action::Add(value),
-            returned: None,
-            ..
-        } => order.contains(&number) == is_removed(operations, value),
-        _ => true,
-    })
+/// Whether the order lists the operations that the judge lists, in whatever order.
+pub fn lists_what_the_judge_lists(operations: &[Operation], order: &[u16]) -> bool {
+    let mut listed = order.to_vec();
+    listed.sort();
+    listed == judged_operations(operations)
+}
+
+/// The operations that an order of the judge lists. "The judge lists an open add exactly if its value
+/// was removed." An open remove is left out, unless it is told as the remove of a value.
+pub fn judged_operations(operations: &[Operation]) -> Vec<u16> {
+    let is_listed = |operation: &Operation| match operation.action {
+        Action::Add(value) => operation.returned.is_some() || is_removed(operations, value),
+        Action::Remove(_) => true,
+        Action::PendingRemove => false,
+    };
+    let numbered = (0..).zip(operations);
+    let listed = numbered.filter(|(_, operation)| is_listed(operation));
+    listed.map(|(number, _)| number).collect()
 }

@@ -6,6 +6,7 @@
 pub mod all_linearizations;
 pub mod history;
 pub mod judged_log;
+pub mod judgement;
 pub mod linearization;
 pub mod page;
 pub mod projection;

@@ -51,12 +51,13 @@ fn line(number: usize, operation: &Operation, records: usize) -> String {
 }
 
 /// "A, R or E (empty remove) and the value in decimal without leading zeros, left-aligned; E has no
-/// value."
+/// value." Of an open remove change 4 says: "The page shows a lone R."
 fn label(operation: &Operation) -> String {
     match operation.action {
         Action::Add(value) => format!("A{value}"),
         Action::Remove(Removed::Value(value)) => format!("R{value}"),
         Action::Remove(Removed::Empty) => "E".to_string(),
+        Action::PendingRemove => "R".to_string(),
     }
 }
 

@@ -40,11 +40,11 @@ fn kept(records: &[Record], such: impl Fn(usize, &Operation) -> bool) -> Vec<Rec
     places.map(|at| records[at]).collect()
 }
 
-/// The value that an operation is on; an empty remove is on none.
+/// The value that an operation is on; an empty remove is on none, nor is one that has not returned.
 fn value_of(operation: &Operation) -> Option<u32> {
     match operation.action {
         Action::Add(value) | Action::Remove(Removed::Value(value)) => Some(value),
-        Action::Remove(Removed::Empty) => None,
+        Action::Remove(Removed::Empty) | Action::PendingRemove => None,
     }
 }
 

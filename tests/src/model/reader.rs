@@ -49,7 +49,7 @@ pub fn read(log: &[u8]) -> Result<Vec<Record>, Refusal> {
     if !rest.is_empty() {
         return Err(Refusal(1, n));
     }
-    match earliest_open_remove(&past) {
+    match second_open_remove(&past) {
         Some(index) => Err(Refusal(10, index)),
         None => Ok(records),
     }
@@ -172,7 +172,11 @@ fn close(past: &mut Past, record: Record, operation: Operation) -> Result<(), u3
     }
 }
 
-fn earliest_open_remove(past: &Past) -> Option<usize> {
+/// Change 4 of document 02: "Refusal 10 is now for a second remove without return, with the index of
+/// its call."
+fn second_open_remove(past: &Past) -> Option<usize> {
     let removes = past.open.values().filter(|(o, _)| *o == Operation::Remove);
-    removes.map(|&(_, index)| index).min()
+    let mut calls: Vec<usize> = removes.map(|&(_, index)| index).collect();
+    calls.sort();
+    calls.get(1).copied()
 }

@@ -1,6 +1,7 @@
 //! Whether a short log has a legal order (a linearization), by trying: operations are placed one
 //! after the other in every way that precedence and the queue allow (the search of Wing and Gong,
-//! with Lowe's memory of where it has been). It knows nothing of patterns.
+//! with Lowe's memory of where it has been). It knows nothing of patterns, nor of what the judge tries
+//! for a pending remove: that is placed as any other operation, or never.
 
 use std::collections::HashSet;
 
@@ -26,8 +27,8 @@ pub fn has_linearization(operations: &[Operation]) -> bool {
     false
 }
 
-/// Which operations are placed, a bit for each, and what they leave in the queue. Behind a value
-/// that is never removed nothing is ever reached, so the queue is told up to the first of these.
+/// Which operations are placed, a bit for each, and what they leave in the queue, as far as that is
+/// ever reached.
 #[derive(Clone, Default, PartialEq, Eq, Hash)]
 struct State {
     placed: u32,
@@ -39,6 +40,7 @@ struct Search<'a> {
     /// For each operation those that precede it.
     preceding: Vec<u32>,
     returned: u32,
+    pending_removes: u32,
     removed: HashSet<u32>,
 }
 
@@ -54,11 +56,12 @@ impl<'a> Search<'a> {
             operations,
             preceding: operations.iter().map(preceding).collect(),
             returned: bits(operations, |o| o.returned.is_some()),
+            pending_removes: bits(operations, |o| o.action == Action::PendingRemove),
             removed: operations.iter().filter_map(removed_value).collect(),
         }
     }
 
-    /// Whether every returned operation is placed. Pending adds may be left out.
+    /// Whether every returned operation is placed. Pending ones may be left out.
     fn is_done(&self, state: &State) -> bool {
         self.returned & !state.placed == 0
     }
@@ -76,23 +79,31 @@ impl<'a> Search<'a> {
         if !is_new || is_preceded {
             return None;
         }
-        let queue = self.run(&state.queue, self.operations[number].action)?;
+        let mut queue = run(&state.queue, self.operations[number].action)?;
+        queue.truncate(self.reached(&queue, placed));
         Some(State { placed, queue })
     }
 
-    /// The queue behind the operation; none if the operation cannot have met this queue.
-    fn run(&self, queue: &[u32], action: Action) -> Option<Vec<u32>> {
-        match action {
-            Action::Add(value) => match queue.last() {
-                Some(last) if !self.removed.contains(last) => Some(queue.to_vec()),
-                _ => Some([queue, &[value]].concat()),
-            },
-            Action::Remove(Removed::Value(value)) => {
-                let (front, behind) = queue.split_first()?;
-                (*front == value).then(|| behind.to_vec())
-            }
-            Action::Remove(Removed::Empty) => queue.is_empty().then(Vec::new),
+    /// How much of the queue can ever be reached. Behind a value that no remove returned nothing is,
+    /// unless a pending remove that is not placed takes that value.
+    fn reached(&self, queue: &[u32], placed: u32) -> usize {
+        let takers = (self.pending_removes & !placed).count_ones() as usize;
+        let stays = |&place: &usize| !self.removed.contains(&queue[place]);
+        let mut staying = (0..queue.len()).filter(stays);
+        staying.nth(takers).map_or(queue.len(), |last| last + 1)
+    }
+}
+
+/// The queue behind the operation; none if the operation cannot have met this queue.
+fn run(queue: &[u32], action: Action) -> Option<Vec<u32>> {
+    match action {
+        Action::Add(value) => Some([queue, &[value]].concat()),
+        Action::Remove(Removed::Value(value)) => {
+            let (front, behind) = queue.split_first()?;
+            (*front == value).then(|| behind.to_vec())
         }
+        Action::Remove(Removed::Empty) => queue.is_empty().then(Vec::new),
+        Action::PendingRemove => Some(queue.iter().skip(1).copied().collect()),
     }
 }
 
@@ -105,7 +116,9 @@ fn bits(operations: &[Operation], such: impl Fn(&Operation) -> bool) -> u32 {
 #[cfg(test)]
 mod tests {
     use super::has_linearization;
-    use crate::logs::enumerate::{every_log, every_log_with_joined_ticks};
+    use crate::logs::enumerate::{
+        every_log, every_log_with_joined_ticks, every_log_with_pending_remove,
+    };
     use crate::model::all_linearizations::linearizations;
     use crate::model::history::operations;
     use crate::model::reader;
@@ -135,5 +148,14 @@ mod tests {
             }
         });
         assert_eq!(found, [5250, 4392]);
+    }
+
+    #[test]
+    fn it_does_so_with_a_pending_remove() {
+        let mut found = [0, 0];
+        every_log_with_pending_remove(6, &mut |records| {
+            found[usize::from(compared(records))] += 1;
+        });
+        assert_eq!(found, [3922, 2871]);
     }
 }

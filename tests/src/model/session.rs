@@ -75,7 +75,7 @@ impl State {
     }
 
     /// "Others: 25, then 20 or 22, then the input list, 23, 24." Of the input list 10 is left for a
-    /// session that is open.
+    /// session that is open. Change 4 puts 32 before 23.
     pub fn close(&mut self, room: usize) -> Result<JudgedLog, Answer> {
         let held = self.held().ok_or(refused(25, 0))?;
         if self.session.stage == CLOSED {
@@ -95,7 +95,7 @@ impl State {
     }
 
     pub fn excerpt(&self, room: usize) -> Outcome {
-        let excerpt = self.closed()?.excerpt().ok_or(refused(23, 0))?;
+        let excerpt = self.closed()?.excerpt()?;
         match room < excerpt.len() {
             true => Err(refused(24, 0)),
             false => Ok(excerpt),
@@ -113,7 +113,7 @@ impl State {
         ))
     }
 
-    /// The records held, or the index of the earliest remove without return. None if "the session's
+    /// The records held, or the index of the second remove without return. None if "the session's
     /// stage or used bytes do not fit its buffer, or the bytes are no readable log (open session:
     /// readable but for 10)".
     fn held(&self) -> Option<Result<Vec<Record>, usize>> {

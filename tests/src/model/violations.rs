@@ -17,7 +17,8 @@ pub struct Violation {
 pub const FALSE_EMPTY: u8 = 6;
 
 /// "The lowest number that occurs is reported. Among its occurrences the lowest list of operation
-/// numbers is taken, compared left to right." None if no pattern occurs.
+/// numbers is taken, compared left to right." None if no pattern occurs. A pending remove is left
+/// out.
 pub fn first_violation(operations: &[Operation]) -> Option<Violation> {
     let table = Table::new(operations);
     (1..=6).find_map(|number| {
@@ -82,6 +83,8 @@ impl<'a> Table<'a> {
                     table.removes_of.entry(value).or_default().push(number);
                 }
                 Action::Remove(Removed::Empty) => table.empty_removes.push(number),
+                // What it took is not known, so that it is in no pattern.
+                Action::PendingRemove => {}
             }
         }
         table
@@ -207,7 +210,7 @@ impl<'a> Table<'a> {
 /// it, until all are covered. Never removed reaches furthest; among several of those, the lowest
 /// add." None if some gap of the remove is not covered.
 fn chain(remove: &Operation, covers: &[Cover]) -> Option<Vec<u16>> {
-    let returned = remove.returned.expect("a remove of a readable log returns");
+    let returned = remove.returned.expect("an empty remove has returned");
     let mut chain = Vec::new();
     let mut first_beyond = remove.call.place;
     for gap in remove.call.place..returned.place {

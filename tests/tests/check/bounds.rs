@@ -180,8 +180,14 @@ fn faults_of_the_last_record_are_told_across_the_whole_log() {
     assert_eq!(with_last(return_empty(0, 1022)), refused(8, last));
     assert_eq!(with_last(return_add(0, 1022)), Answer::Accepted(N - 1));
     assert_eq!(with_last(call_add(1023, 1022, !0)), refused(9, last));
-    assert_eq!(with_last(call_remove(1023, 1022)), refused(10, last));
-    // An open remove in the first place is told from there.
+    assert_eq!(with_last(call_remove(1023, 1022)), Answer::Accepted(N));
+    // A second remove without return is told where it stands, whichever is the first.
     records[0] = call_remove(first.client, first.tick);
-    assert_eq!(check(&log(&records)), refused(10, 0));
+    assert_eq!(check(&log(&records)), Answer::Accepted(N - 1));
+    records.push(call_remove(1023, 1022));
+    assert_eq!(check(&log(&records)), refused(10, last));
+    records[500] = call_remove(500, 500);
+    assert_eq!(check(&log(&records)), refused(10, 500));
+    records[0] = first;
+    assert_eq!(check(&log(&records)), refused(10, last));
 }

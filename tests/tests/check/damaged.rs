@@ -4,6 +4,7 @@
 
 use yauponroof_tests::compare::reading::Tally;
 use yauponroof_tests::logs::damage::telling_values;
+use yauponroof_tests::logs::insertion::with_pending_remove;
 use yauponroof_tests::logs::notation::run;
 use yauponroof_tests::logs::samples::{calls_then_returns, pending_adds, RUNS};
 use yauponroof_tests::logs::simulation::{simulate, Clients};
@@ -29,9 +30,17 @@ fn clients_used_again() -> Vec<Record> {
     ]
 }
 
-/// Document 01's runs, one by hand and simulated ones, some in batches, of at most 14 records.
+/// Document 01's runs, some with an open remove, one by hand and simulated ones, some in batches, of
+/// at most 14 records.
 fn short_logs() -> Vec<Vec<Record>> {
     let mut logs: Vec<Vec<Record>> = RUNS.iter().map(|(text, ..)| run(text)).collect();
+    logs.push(run("A1( A1) A2( A2) Ro( R( R2)"));
+    logs.push(run("Ro( A1( A1) R( R-) Ra( Ra1)"));
+    logs.push(run("A1( A2( A1) Ra( Rb( A2) Rb1) Ro( Ra2) R( R-)"));
+    logs.push(with_pending_remove(
+        &simulate(3, Clients::OnePerOperation, 12, 2),
+        5,
+    ));
     logs.push(clients_used_again());
     let mut random = Random::new(222);
     for seed in 0..2 {
@@ -46,10 +55,11 @@ fn short_logs() -> Vec<Vec<Record>> {
     logs
 }
 
-/// Logs of some hundred records.
+/// Logs of some hundred records, one of them with an open remove.
 fn medium_logs() -> Vec<Vec<Record>> {
     vec![
         simulate(2, Clients::Reused, 200, 11),
+        with_pending_remove(&simulate(8, Clients::OnePerOperation, 200, 15), 60),
         in_batches(
             &simulate(8, Clients::Reused, 200, 12),
             6,
@@ -62,10 +72,11 @@ fn medium_logs() -> Vec<Vec<Record>> {
     ]
 }
 
-/// Logs of the most records.
+/// Logs of the most records, one of them with an open remove.
 fn long_logs() -> Vec<Vec<Record>> {
     vec![
         simulate(64, Clients::OnePerOperation, 1024, 22),
+        with_pending_remove(&simulate(8, Clients::OnePerOperation, 1022, 23), 500),
         in_batches(
             &simulate(8, Clients::Reused, 1024, 21),
             6,
@@ -160,7 +171,7 @@ fn short_logs_damaged_in_every_way() {
         compare_mixed_up(&records, &mut tally);
     }
     tally.assert_at_least([
-        60_000, 30_000, 4000, 4000, 30_000, 6000, 100_000, 600, 60_000, 80, 25,
+        60_000, 30_000, 4000, 4000, 30_000, 6000, 100_000, 600, 60_000, 80, 10,
     ]);
     tally.assert_seen(31, 30);
     let archives = tally.archives();
@@ -178,7 +189,7 @@ fn medium_logs_damaged_at_every_byte() {
         compare_lost_and_doubled(&records, &mut tally);
     }
     tally.assert_at_least([
-        25_000, 8000, 40, 25, 4000, 10_000, 30_000, 4000, 15_000, 300, 80,
+        25_000, 8000, 40, 25, 4000, 10_000, 30_000, 4000, 15_000, 300, 45,
     ]);
     tally.assert_seen(31, 80);
     let archives = tally.archives();

@@ -24,7 +24,7 @@ fn readable_runs_are_accepted_with_their_operations() {
 #[test]
 fn runs_with_a_refusal_are_refused() {
     assert_eq!(check(&log(&run("A7( A7) A7("))), refused(9, 2));
-    assert_eq!(check(&log(&run("R("))), refused(10, 0));
+    assert_eq!(check(&log(&run("Ra( Rb("))), refused(10, 1));
 }
 
 #[test]
@@ -102,10 +102,10 @@ fn a_record_is_refused_by_the_first_test_that_it_fails_and_before_what_is_behind
 
 #[test]
 fn each_length_fits_its_kind_alone() {
-    // An add, a remove that does not return, and returns without a call.
+    // An add and a remove that do not return, and returns without a call.
     let of_its_kind = [
         (11, Answer::Accepted(1)),
-        (7, refused(10, 0)),
+        (7, Answer::Accepted(1)),
         (7, refused(8, 0)),
         (11, refused(8, 0)),
         (7, refused(8, 0)),
@@ -165,11 +165,26 @@ fn a_value_is_added_once_even_if_it_was_removed() {
 }
 
 #[test]
-fn the_earliest_open_remove_is_told_after_the_bytes_left() {
+fn one_remove_may_be_left_open() {
+    for (text, operations) in [
+        ("R(", 1),
+        ("A7( Ra( A7)", 2),
+        ("Ra( Rb( Ra-)", 2),
+        ("Ra( Rb( Rb-)", 2),
+        ("R( R-) Ra(", 2),
+        ("A1( A2( R(", 3),
+    ] {
+        let answer = check(&log(&run(text)));
+        assert_eq!(answer, Answer::Accepted(operations), "{text}");
+    }
+}
+
+#[test]
+fn the_second_open_remove_is_told_after_the_bytes_left() {
     let two_open = run("A7( Ra( Rb( A7)");
-    assert_eq!(check(&log(&two_open)), refused(10, 1));
+    assert_eq!(check(&log(&two_open)), refused(10, 2));
     let first_returned = run("Ra( Rb( Ra-) Rc(");
-    assert_eq!(check(&log(&first_returned)), refused(10, 1));
+    assert_eq!(check(&log(&first_returned)), refused(10, 3));
     let mut left = log(&two_open);
     left.push(0);
     assert_eq!(check(&left), refused(1, 4));
@@ -179,10 +194,23 @@ fn the_earliest_open_remove_is_told_after_the_bytes_left() {
 }
 
 #[test]
-fn the_earliest_open_remove_is_by_record_and_not_by_client() {
+fn of_many_open_removes_the_second_is_told() {
+    assert_eq!(check(&log(&run("Ra( Rb( Rc("))), refused(10, 1));
+    assert_eq!(check(&log(&run("Ra( A1( Rb( A1) Rc("))), refused(10, 2));
+    // The first of four has returned, or the second, or the last.
+    assert_eq!(check(&log(&run("Ra( Rb( Rc( Rd( Ra-)"))), refused(10, 2));
+    assert_eq!(check(&log(&run("Ra( Rb( Rc( Rd( Rb-)"))), refused(10, 2));
+    assert_eq!(check(&log(&run("Ra( Rb( Rc( Rd( Rd-)"))), refused(10, 1));
+}
+
+#[test]
+fn the_second_open_remove_is_by_record_and_not_by_client() {
     let later_client_first = "010002 0702000900000001 0702000100000002";
-    assert_eq!(check_hex(later_client_first), refused(10, 0));
+    assert_eq!(check_hex(later_client_first), refused(10, 1));
     // Client 1 called first, returned, and called again behind client 9.
     let called_again = "010004 0702000100000001 0705000100000002 0702000900000003 0702000100000004";
-    assert_eq!(check_hex(called_again), refused(10, 2));
+    assert_eq!(check_hex(called_again), refused(10, 3));
+    // Clients 9, 5 and 1 call in that order.
+    let falling = "010003 0702000900000001 0702000500000002 0702000100000003";
+    assert_eq!(check_hex(falling), refused(10, 1));
 }

@@ -67,7 +67,7 @@ fn every_kind_and_length() {
             }
         }
     }
-    tally.assert_at_least([1, 60_000, 0, 0, 120_000, 3000, 0, 0, 6, 0, 1]);
+    tally.assert_at_least([2, 60_000, 0, 0, 120_000, 3000, 0, 0, 6, 0, 0]);
 }
 
 #[test]
@@ -180,7 +180,7 @@ fn every_sequence_of_four_records() {
     let logs: u64 = (0..=4).map(|n| 3 * 32u64.pow(n)).sum();
     assert_eq!(tally.total(), logs - 1);
     tally.assert_at_least([
-        1000, 14_000, 0, 0, 100_000, 300_000, 250_000, 150_000, 1_500_000, 30_000, 350,
+        1300, 14_000, 0, 0, 100_000, 300_000, 250_000, 150_000, 1_500_000, 30_000, 50,
     ]);
     tally.assert_seen(31, 10_000);
 }
@@ -191,7 +191,7 @@ fn every_sequence_of_six_records_up_to_the_first_refused() {
     let all = few_records(&[0, 1, 2]);
     compare_sequences(&mut Vec::new(), &all, 6, BehindRefused::Nothing, &mut tally);
     tally.assert_at_least([
-        40_000, 800_000, 0, 0, 30_000, 100_000, 800_000, 100_000, 250_000, 18_000, 16_000,
+        54_000, 800_000, 0, 0, 30_000, 100_000, 800_000, 100_000, 250_000, 18_000, 2900,
     ]);
     tally.assert_seen(31, 70_000);
 }

@@ -5,6 +5,7 @@
 use yauponroof_tests::compare::reading::Tally;
 use yauponroof_tests::library::check;
 use yauponroof_tests::library::fenced::{lend_long, Fenced, Place};
+use yauponroof_tests::logs::insertion::with_pending_remove;
 use yauponroof_tests::logs::notation::run;
 use yauponroof_tests::logs::samples::{calls_then_returns, pending_adds, RUNS};
 use yauponroof_tests::logs::simulation::{simulate, Clients};
@@ -26,11 +27,13 @@ fn compare(fenced: &Fenced, log: &[u8], tally: &mut Tally) {
     }
 }
 
-/// Logs of a few records; all are readable but for two with open removes.
+/// Logs of a few records; all are readable but for two with two open removes.
 fn short_logs() -> Vec<Vec<u8>> {
     let mut logs: Vec<Vec<u8>> = RUNS.iter().map(|(text, ..)| log(&run(text))).collect();
     logs.push(log(&run("A7( Ra( Rb( A7)")));
     logs.push(log(&run("Ra( Rb( Ra-) Rc(")));
+    logs.push(log(&run("A1( A1) A2( A2) Ro( R( R2)")));
+    logs.push(log(&run("A1( A1) A2( A2) R( R2) R( R1) Ro(")));
     logs.push(log(&simulate(2, Clients::Reused, 20, 1)));
     logs.push(log(&simulate(4, Clients::OnePerOperation, 20, 2)));
     logs
@@ -42,6 +45,7 @@ fn long_logs() -> Vec<Vec<u8>> {
         log(&simulate(8, Clients::Reused, 1024, 3)),
         log(&calls_then_returns(1024)),
         log(&pending_adds(1024)),
+        log(&with_pending_remove(&pending_adds(1023), 1023)),
     ]
 }
 
@@ -53,7 +57,7 @@ fn whole_logs_and_no_bytes() {
     for log in short_logs().iter().chain(&long_logs()) {
         compare(&fenced, log, &mut tally);
     }
-    tally.assert_at_least([40, 2, 0, 0, 0, 0, 0, 0, 0, 0, 4]);
+    tally.assert_at_least([46, 2, 0, 0, 0, 0, 0, 0, 0, 0, 4]);
 }
 
 #[test]
@@ -97,7 +101,7 @@ fn damaged_logs() {
     let short = short_logs();
     let telling: Vec<u8> = (0..=12).chain([254, 255]).collect();
     let mut tally = Tally::of_all_entries();
-    for _ in 0..40_000 {
+    for _ in 0..44_000 {
         let mut bytes = random.pick(&short).clone();
         for _ in 0..=random.below(2) {
             let at = random.below(bytes.len());

@@ -153,5 +153,5 @@ fn the_highest_operation_numbers() {
             }
         }
     }
-    assert_eq!(seen, [8, 1, 1, 1, 1, 1, 2]);
+    assert_eq!(seen, [9, 1, 1, 1, 1, 1, 2]);
 }

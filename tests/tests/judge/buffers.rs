@@ -36,7 +36,7 @@ fn every_length_for_the_runs_of_the_document() {
         let log = log(&run(text));
         long_enough += compare_sheets(&log, (0..=40).chain([SHEET_MAX, 5000, 1 << 20]));
     }
-    assert_eq!(long_enough, 528);
+    assert_eq!(long_enough, 568);
 }
 
 #[test]

@@ -4,7 +4,7 @@
 use yauponroof_tests::compare::archive::Archives;
 use yauponroof_tests::logs::changes::{
     a_call_later, a_return_sooner, an_outcome_changed, near_outcomes_exchanged,
-    neighbours_exchanged, outcomes_exchanged, values_added_exchanged, Change,
+    neighbours_exchanged, outcomes_exchanged, values_added_exchanged, Change, CHANGES,
 };
 use yauponroof_tests::logs::simulation::{runs_of_all_sizes, Run};
 use yauponroof_tests::random::Random;
@@ -64,4 +64,30 @@ fn outcomes_of_one_remove_and_the_next_change_places() {
 #[test]
 fn removes_return_something_else() {
     compare_changed(an_outcome_changed, [50, 600, 90, 0, 60, 1, 15]);
+}
+
+/// A remove of each changed run never returns. The runs are of at most 256 records, for the time that
+/// it takes the table to go through all that the open remove may have taken.
+#[test]
+fn changes_beside_a_remove_that_never_returned() {
+    const MOST: usize = 256;
+    let mut random = Random::new(248);
+    let mut archives = Archives::new();
+    for run in runs_of_all_sizes() {
+        if run.records.len() > MOST {
+            continue;
+        }
+        for change in CHANGES {
+            if let Some(records) = change(&run, &mut random) {
+                let changed = Run {
+                    records,
+                    ..run.clone()
+                };
+                let open = changed.with_pending_remove(&mut random);
+                archives.compare_records(&open.records);
+            }
+        }
+    }
+    archives.assert_at_least([380, 30, 10, 75, 35, 7, 2]);
+    assert!(archives.took() >= 140, "{archives:?}");
 }

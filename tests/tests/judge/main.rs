@@ -14,6 +14,7 @@ mod every_log;
 mod faults;
 mod lent_buffers;
 mod one_tick;
+mod pending_remove;
 mod random;
 mod refusals;
 mod simulated;

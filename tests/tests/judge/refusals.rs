@@ -52,9 +52,9 @@ fn a_fault_in_the_last_record_comes_before_24() {
 }
 
 #[test]
-fn an_open_remove_is_refused_whatever_the_verdict_would_be() {
-    // Beside an order and each pattern a remove does not return, as the first or the last
-    // operation.
+fn a_second_open_remove_is_refused_whatever_the_verdict_would_be() {
+    // Beside an order and each pattern two removes do not return, as the first operations, as the
+    // last, or as the first and the last.
     let runs = [
         "A7( A7) R( R7)",
         "R( R9)",
@@ -68,9 +68,12 @@ fn an_open_remove_is_refused_whatever_the_verdict_would_be() {
         let records = run(text);
         let sheet = judged(&log(&records)).expect("a sheet");
         assert_eq!(usize::from(sheet[1]), verdict, "{text}");
-        let first = judged(&log(&run(&format!("Ro( {text}"))));
-        assert_eq!(first, Err(refused(10, 0)), "{text}");
-        let last = judged(&log(&run(&format!("{text} Ro("))));
-        assert_eq!(last, Err(refused(10, records.len() as u32)), "{text}");
+        let first = judged(&log(&run(&format!("Ro( Rp( {text}"))));
+        assert_eq!(first, Err(refused(10, 1)), "{text}");
+        let end = records.len() as u32 + 1;
+        let last = judged(&log(&run(&format!("{text} Ro( Rp("))));
+        assert_eq!(last, Err(refused(10, end)), "{text}");
+        let apart = judged(&log(&run(&format!("Ro( {text} Rp("))));
+        assert_eq!(apart, Err(refused(10, end)), "{text}");
     }
 }

@@ -3,17 +3,19 @@
 
 use yauponroof_tests::compare::archive::Archives;
 use yauponroof_tests::logs::simulation::{
-    runs_of_all_sizes, runs_with_clients_apart, simulate_load, Clients, Load, Run,
+    runs_in_batches, runs_of_all_sizes, runs_with_clients_apart, simulate_load, Clients, Load, Run,
 };
 use yauponroof_tests::model::sheet::ORDER;
 use yauponroof_tests::random::Random;
 
-fn assert_orders(runs: &[Run]) {
+/// How many of the orders list an open remove.
+fn assert_orders(runs: &[Run]) -> u64 {
     let mut archives = Archives::new();
     for run in runs {
         assert_eq!(archives.compare_records(&run.records), ORDER);
     }
     assert!(runs.len() >= 60);
+    archives.took()
 }
 
 #[test]
@@ -76,4 +78,36 @@ fn queues_that_are_empty_in_the_end() {
         }
     }
     assert_orders(&runs);
+}
+
+/// A remove of each run never returns; it took a value or found none.
+#[test]
+fn queues_of_which_a_consumer_never_came_back() {
+    let mut random = Random::new(244);
+    let mut lost = |run: &Run| run.with_pending_remove(&mut random);
+    let mut took = 0;
+    for runs in [runs_of_all_sizes(), runs_in_batches()] {
+        let open: Vec<Run> = runs.iter().map(&mut lost).collect();
+        took += assert_orders(&open);
+    }
+    assert!(took >= 100, "{took} list the open remove");
+}
+
+/// The same where the value that it took is missed: all others are removed in the end.
+#[test]
+fn queues_that_are_empty_in_the_end_but_for_what_an_open_remove_took() {
+    let mut random = Random::new(245);
+    let mut runs = Vec::new();
+    for load in [Load::Even, Load::Busy] {
+        for workers in [1, 3, 8, 64] {
+            for n in [20, 60, 200, 400] {
+                for _ in 0..2 {
+                    let run = simulate_load(load, workers, Clients::Reused, n, random.next_u64());
+                    runs.push(run.drained().with_pending_remove(&mut random));
+                }
+            }
+        }
+    }
+    let took = assert_orders(&runs);
+    assert!(took >= 45, "{took} list the open remove");
 }

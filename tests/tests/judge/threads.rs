@@ -35,6 +35,8 @@ fn logs() -> Vec<Vec<u8>> {
         let run = simulate_load(Load::Busy, 4, Clients::Reused, n, seed);
         logs.push(log(&run.records));
         logs.push(log(&run.drained().records));
+        let open = run.drained().with_pending_remove(&mut Random::new(seed));
+        logs.push(log(&open.records));
     }
     logs
 }

@@ -2,7 +2,7 @@
 //! for their ticks. "Two neighbours of one tick and different clients may now trade places, a call
 //! with a return included. Two calls of different ticks may trade only if no return has either tick,
 //! and two returns only if no call has." The traded log is readable and its sheet has the same verdict
-//! byte. Where a condition is not met, some verdict changes.
+//! byte, also if one of its removes is open. Where a condition is not met, some verdict changes.
 
 use std::collections::BTreeMap;
 
@@ -13,8 +13,10 @@ use yauponroof_tests::logs::changes::{
     a_return_sooner, an_outcome_changed, outcomes_exchanged, with_ticks_of, Change,
 };
 use yauponroof_tests::logs::enumerate::{
-    every_log, every_log_of_paired_operations, every_log_with_joined_ticks, random_log,
-    random_log_of_paired_operations,
+    every_log, every_log_of_paired_operations, every_log_of_paired_operations_with_pending_remove,
+    every_log_with_joined_ticks, every_log_with_pending_remove, random_log,
+    random_log_of_paired_operations, random_log_of_paired_operations_with_pending_remove,
+    random_log_with_pending_remove,
 };
 use yauponroof_tests::logs::insertion::with_empty_removes;
 use yauponroof_tests::logs::notation::run_in_batches;
@@ -76,6 +78,13 @@ impl Trades {
             assert_eq!(verdict(&after), expected, "{records:?} and {traded:?}");
             self.made[usize::from(expected)] += 1;
         }
+    }
+
+    /// Asserts that so many trades at least were made in logs of each verdict.
+    fn assert_at_least(&self, floors: [u64; 7]) {
+        let mut pairs = self.made.iter().zip(floors);
+        let enough = pairs.all(|(made, floor)| *made >= floor);
+        assert!(enough, "made: {:?}, not {floors:?}", self.made);
     }
 }
 
@@ -143,6 +152,42 @@ fn every_trade_in_every_log_of_up_to_four_paired_operations() {
         every_joining(records, &mut |joined| trades.compare(joined));
     });
     assert_eq!(trades.made, [23_444, 0, 0, 0, 280, 0, 784]);
+}
+
+#[test]
+fn every_trade_in_every_log_of_up_to_seven_records_with_an_open_remove() {
+    let mut trades = Trades::default();
+    every_log_with_pending_remove(7, &mut |records| trades.compare(records));
+    let made = [64_770, 76_858, 10_948, 28_538, 648, 0, 1170];
+    assert_eq!(trades.made, made);
+}
+
+#[test]
+fn every_trade_in_every_log_of_up_to_six_records_with_an_open_remove_and_ticks_joined() {
+    let mut trades = Trades::default();
+    every_log_with_pending_remove(6, &mut |records| {
+        every_joining(records, &mut |joined| {
+            if let Answer::Accepted(_) = check(&log(joined)) {
+                trades.compare(joined);
+            }
+        });
+    });
+    let made = [188_586, 142_713, 15_620, 38_570, 390, 0, 400];
+    assert_eq!(trades.made, made);
+}
+
+#[test]
+fn every_trade_in_every_log_of_paired_operations_with_an_open_remove() {
+    let mut trades = Trades::default();
+    every_log_of_paired_operations_with_pending_remove(9, &mut |records| trades.compare(records));
+    let made = [271_542, 0, 0, 0, 3988, 392, 9506];
+    assert_eq!(trades.made, made);
+    // Up to three of them and the open remove with ticks joined in every way.
+    let mut trades = Trades::default();
+    every_log_of_paired_operations_with_pending_remove(7, &mut |records| {
+        every_joining(records, &mut |joined| trades.compare(joined));
+    });
+    assert_eq!(trades.made, [422_848, 0, 0, 0, 490, 0, 3190]);
 }
 
 /// Asserts that this trade changes the verdict from one to another.
@@ -217,13 +262,25 @@ fn every_trade_in_logs_by_chance() {
             trades.compare(&in_batches(&records, about, &mut random));
         }
     }
-    let floors = [35_000, 11_000, 17_000, 4500, 13_000, 2000, 7500];
-    let enough = trades
-        .made
-        .iter()
-        .zip(floors)
-        .all(|(made, floor)| *made >= floor);
-    assert!(enough, "made: {:?}, not {floors:?}", trades.made);
+    trades.assert_at_least([35_000, 11_000, 17_000, 4500, 13_000, 2000, 7500]);
+}
+
+#[test]
+fn every_trade_in_logs_by_chance_with_an_open_remove() {
+    let mut random = Random::new(246);
+    let mut trades = Trades::default();
+    for round in 0..4000 {
+        let least = random.below(24);
+        let any = random_log_with_pending_remove(least, &mut random);
+        let count = 3 + random.below(10);
+        let paired = random_log_of_paired_operations_with_pending_remove(count, &mut random);
+        for records in [any, paired] {
+            trades.compare(&records);
+            let about = 2 + round % 5;
+            trades.compare(&in_batches(&records, about, &mut random));
+        }
+    }
+    trades.assert_at_least([40_000, 7000, 15_000, 7000, 9500, 1500, 5500]);
 }
 
 /// An empty remove is put in, short enough to be false now and then.
@@ -233,36 +290,63 @@ fn an_empty_remove_put_in(run: &Run, random: &mut Random) -> Option<Vec<Record>>
     Some(with_empty_removes(&run.records, &[(from, to)]))
 }
 
-#[test]
-fn trade_after_trade_in_long_logs() {
+/// A simulated run of one of these sizes with some open adds, changed in one place.
+fn changed_run(sizes: &[usize], seed: u64, random: &mut Random) -> Run {
     let changes: [Change; 4] = [
         a_return_sooner,
         outcomes_exchanged,
         an_outcome_changed,
         an_empty_remove_put_in,
     ];
+    let load = *random.pick(&[Load::Even, Load::Busy]);
+    let n = *random.pick(sizes);
+    let workers = *random.pick(&[3, 8, 64]);
+    let run = simulate_load(load, workers, Clients::Reused, n, seed);
+    let run = run.with_pending_adds(5, random);
+    match random.pick(&changes)(&run, random) {
+        Some(records) => Run { records, ..run },
+        None => run,
+    }
+}
+
+/// Makes ten trades, one after the other. All logs have one verdict.
+fn compare_trade_after_trade(
+    mut records: Vec<Record>,
+    archives: &mut Archives,
+    random: &mut Random,
+) {
+    let expected = archives.compare_records(&records);
+    for _ in 0..10 {
+        records = random.pick_from(traded(&records)).expect("a trade");
+        assert_eq!(archives.compare_records(&records), expected, "{records:?}");
+    }
+}
+
+#[test]
+fn trade_after_trade_in_long_logs() {
     let mut random = Random::new(95);
     let mut archives = Archives::new();
     for round in 0..60 {
-        let load = *random.pick(&[Load::Even, Load::Busy]);
-        let n = *random.pick(&[60, 300, 1020]);
-        let workers = *random.pick(&[3, 8, 64]);
-        let run = simulate_load(load, workers, Clients::Reused, n, round);
-        let run = run.with_pending_adds(5, &mut random);
-        let changed = random.pick(&changes)(&run, &mut random);
-        let mut records = changed.unwrap_or(run.records);
+        let mut records = changed_run(&[60, 300, 1020], round, &mut random).records;
         if round % 2 == 1 {
             records = in_batches(&records, 4, &mut random);
         }
-        let expected = archives.compare_records(&records);
-        for _ in 0..10 {
-            records = random.pick_from(traded(&records)).expect("a trade");
-            assert_eq!(
-                archives.compare_records(&records),
-                expected,
-                "round {round}"
-            );
-        }
+        compare_trade_after_trade(records, &mut archives, &mut random);
     }
     archives.assert_at_least([200, 50, 5, 50, 20, 30, 70]);
+}
+
+#[test]
+fn trade_after_trade_in_longer_logs_with_an_open_remove() {
+    let mut random = Random::new(247);
+    let mut archives = Archives::new();
+    for round in 0..60 {
+        let run = changed_run(&[60, 120, 300], round, &mut random);
+        let mut records = run.with_pending_remove(&mut random).records;
+        if round % 2 == 1 {
+            records = in_batches(&records, 4, &mut random);
+        }
+        compare_trade_after_trade(records, &mut archives, &mut random);
+    }
+    archives.assert_at_least([200, 20, 5, 50, 20, 0, 10]);
 }

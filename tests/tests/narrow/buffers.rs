@@ -55,7 +55,7 @@ fn every_length_for_the_runs_of_the_document() {
             assert_eq!(compare_narrowings(&log, &values, long.into_iter()), 3);
         }
     }
-    assert_eq!(compared, 2 + 14 * 4);
+    assert_eq!(compared, 2 * 2 + 14 * 4);
 }
 
 #[test]

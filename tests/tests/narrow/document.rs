@@ -1,5 +1,6 @@
 //! Narrowing by hand: what document 01 says is kept, record by record, and what is not.
 
+use yauponroof_tests::compare::archive::Archives;
 use yauponroof_tests::compare::narrowing::compare_narrowing;
 use yauponroof_tests::hex::hex;
 use yauponroof_tests::library::outcomes::narrowing_made;
@@ -42,6 +43,27 @@ fn empty_removes_are_not_kept() {
     let all = [0, 1, 3, 4, 5, 6, 7, 9, 10];
     assert_kept(ALL_KINDS, &[1, 2, 3, 9], &all);
     assert_kept("R( R-)", &[0, 1], &[]);
+}
+
+#[test]
+fn an_open_remove_is_not_kept() {
+    assert_kept("R(", &[0, 1], &[]);
+    assert_kept("Ro( A1( A1) R( R1)", &[1], &[1, 2, 3, 4]);
+    assert_kept("A1( A1) R( R1) Ro(", &[1], &[0, 1, 2, 3]);
+    assert_kept("A0( Ro( A0)", &[0], &[0, 2]);
+    assert_kept("A1( Ro( A2( A2) R( R2)", &[1, 2], &[0, 2, 3, 4, 5]);
+    assert_kept("A1( Ro( A2( A2) R( R2)", &[], &[]);
+}
+
+/// The open remove took 1, and without it 1 is stuck.
+#[test]
+fn without_its_open_remove_an_order_may_have_a_pattern() {
+    let text = "A1( A1) A2( A2) Ro( R( R2)";
+    assert_kept(text, &[1, 2], &[0, 1, 2, 3, 5, 6]);
+    let whole = log(&run(text));
+    let narrowed = narrowing_made(&whole, &[1, 2]).expect("a narrowing");
+    let verdict = |log: &[u8]| Archives::new().compare(log);
+    assert_eq!((verdict(&whole), verdict(&narrowed)), (0, 4));
 }
 
 #[test]

@@ -4,7 +4,7 @@
 use yauponroof_tests::compare::archive::Archives;
 use yauponroof_tests::compare::narrowing::compare_narrowing;
 use yauponroof_tests::logs::enumerate::{
-    every_log, every_log_of_new_clients, every_log_with_joined_ticks,
+    every_log, every_log_of_new_clients, every_log_with_joined_ticks, every_log_with_pending_remove,
 };
 use yauponroof_tests::model::projection::values;
 use yauponroof_tests::model::reader;
@@ -83,6 +83,13 @@ fn every_log_of_up_to_seven_records_with_a_client_for_each_operation() {
     let mut narrowings = Narrowings::default();
     every_log_of_new_clients(7, &mut |records| narrowings.compare(records));
     narrowings.assert_compared(306_204, 124_385);
+}
+
+#[test]
+fn every_log_of_up_to_six_records_with_an_open_remove() {
+    let mut narrowings = Narrowings::default();
+    every_log_with_pending_remove(6, &mut |records| narrowings.compare(records));
+    narrowings.assert_compared(70_060, 28_237);
 }
 
 /// How many narrowings there are of the log, if its verdict is an order. All of them must have one.

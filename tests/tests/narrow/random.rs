@@ -62,6 +62,16 @@ fn lists_by_chance_in_batches() {
 }
 
 #[test]
+fn lists_by_chance_with_an_open_remove() {
+    let mut random = Random::new(249);
+    let mut lost = |run: &Run| run.with_pending_remove(&mut random);
+    for runs in [runs_of_all_sizes(), runs_in_batches()] {
+        let open: Vec<Run> = runs.iter().map(&mut lost).collect();
+        compare_lists(&open);
+    }
+}
+
+#[test]
 fn short_logs_by_chance() {
     let mut random = Random::new(101);
     let mut in_between = 0;

@@ -1,8 +1,9 @@
-//! The columns: an operation from every record to every later one, and open adds at every record.
+//! The columns: an operation from every record to every later one, and open operations at every record.
 //! The expected line is made from counts of characters, without the model.
 
 use yauponroof_tests::compare::page::Pages;
 use yauponroof_tests::library::outcomes::page_made;
+use yauponroof_tests::logs::insertion::with_pending_remove;
 use yauponroof_tests::logs::samples::pending_adds;
 use yauponroof_tests::logs::simulation::{simulate, Clients};
 use yauponroof_tests::logs::ticks::at_one_tick;
@@ -102,6 +103,38 @@ fn open_adds_at_every_record_among_others_that_return() {
             let calls = records[..at].iter().filter(|r| r.event.is_call()).count();
             let expected = line(calls, "A77", at, n, n + 1);
             assert_eq!(line_of(&with_open_add(&records, at), calls), expected);
+            compared += 1;
+        }
+    }
+    assert_eq!(compared, 3 + 9 + 31 + 63);
+}
+
+/// An open remove in the place of each open add, so that all are open.
+#[test]
+fn an_open_remove_at_every_record_among_adds_that_are_open() {
+    let mut compared = 0;
+    for n in 1..=63 {
+        for at in 0..n {
+            let mut records = pending_adds(n);
+            records[at] = call_remove(records[at].client, records[at].tick);
+            let expected = line(at, "R", at, n - 1, n);
+            assert_eq!(line_of(&records, at), expected);
+            compared += 1;
+        }
+    }
+    assert_eq!(compared, 63 * 64 / 2);
+}
+
+#[test]
+fn an_open_remove_at_every_record_among_operations_that_return() {
+    let mut compared = 0;
+    for n in [2, 8, 30, 62] {
+        let records = simulate(4, Clients::Reused, n, 203);
+        for at in 0..=n {
+            let calls = records[..at].iter().filter(|r| r.event.is_call()).count();
+            let expected = line(calls, "R", at, n, n + 1);
+            let open = with_pending_remove(&records, at);
+            assert_eq!(line_of(&open, calls), expected);
             compared += 1;
         }
     }

@@ -81,6 +81,44 @@ fn an_open_add_that_is_the_last_record() {
     );
 }
 
+/// "The page shows a lone R."
+#[test]
+fn an_open_remove_is_a_lone_r_and_marked_to_the_last_record() {
+    assert_page(
+        "R(",
+        &["   0 R           #                                                              "],
+    );
+    assert_page(
+        "A1( A1) A2( A2) Ro( R( R2)",
+        &[
+            "   0 A1          ##.....                                                        ",
+            "   1 A2          ..##...                                                        ",
+            "   2 R           ....###                                                        ",
+            "   3 R2          .....##                                                        ",
+        ],
+    );
+    assert_page(
+        "Ro( A0( R( A0) R-)",
+        &[
+            "   0 R           #####                                                          ",
+            "   1 A0          .###.                                                          ",
+            "   2 E           ..###                                                          ",
+        ],
+    );
+}
+
+#[test]
+fn an_open_remove_that_is_the_last_record() {
+    assert_page(
+        "A7( A7) R( R7) Ra(",
+        &[
+            "   0 A7          ##...                                                          ",
+            "   1 R7          ..##.                                                          ",
+            "   2 R           ....#                                                          ",
+        ],
+    );
+}
+
 #[test]
 fn an_open_add_in_the_middle() {
     assert_page(

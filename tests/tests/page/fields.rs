@@ -2,7 +2,7 @@
 //! operation. Nothing here lays a line out.
 
 use yauponroof_tests::library::outcomes::page_made;
-use yauponroof_tests::logs::enumerate::random_log;
+use yauponroof_tests::logs::enumerate::{random_log, random_log_with_pending_remove};
 use yauponroof_tests::logs::simulation::{simulate_run, Clients};
 use yauponroof_tests::model::history::{operations, Action, Operation};
 use yauponroof_tests::model::record::{Record, Removed};
@@ -33,6 +33,7 @@ fn left_aligned(field: &str) -> &str {
 fn action(label: &str) -> Action {
     match label.split_at(1) {
         ("A", value) => Action::Add(decimal(value)),
+        ("R", "") => Action::PendingRemove,
         ("R", value) => Action::Remove(Removed::Value(decimal(value))),
         ("E", "") => Action::Remove(Removed::Empty),
         _ => panic!("{label:?} is no operation"),
@@ -95,6 +96,20 @@ fn logs_by_chance() {
         }
     }
     assert!(shown >= 50_000, "{shown} operations");
+}
+
+#[test]
+fn logs_by_chance_with_an_open_remove() {
+    let mut random = Random::new(250);
+    let mut shown = 0;
+    for _ in 0..2000 {
+        let least = random.below(60);
+        let records = random_log_with_pending_remove(least, &mut random);
+        if records.len() <= 63 {
+            shown += assert_shown(&records);
+        }
+    }
+    assert!(shown >= 25_000, "{shown} operations");
 }
 
 #[test]

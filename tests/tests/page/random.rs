@@ -7,7 +7,9 @@ use yauponroof_tests::logs::changes::{
     values_added_exchanged, Change,
 };
 use yauponroof_tests::logs::clients::{clients_apart, DISTANCES};
-use yauponroof_tests::logs::enumerate::{random_log, random_log_of_paired_operations};
+use yauponroof_tests::logs::enumerate::{
+    random_log, random_log_of_paired_operations, random_log_with_pending_remove,
+};
 use yauponroof_tests::logs::simulation::{
     runs_in_batches, runs_of_all_sizes, runs_with_clients_apart, runs_with_shared_slots,
     simulate_load, Clients, Load, Run,
@@ -50,6 +52,18 @@ fn compare_made(seed: u64, times: u32, make: fn(&mut Random) -> Vec<Record>) -> 
 fn logs_by_chance() {
     let pages = compare_made(209, 20_000, |random| random_log(random.below(70), random));
     pages.assert_at_least(&[(0, 10_000), (24, 3000), (30, 2000)]);
+}
+
+#[test]
+fn logs_by_chance_with_an_open_remove() {
+    let pages = compare_made(251, 10_000, |random| {
+        let records = random_log_with_pending_remove(random.below(70), random);
+        match random.below(2) {
+            0 => records,
+            _ => in_batches(&records, 4, random),
+        }
+    });
+    pages.assert_at_least(&[(0, 5000), (24, 1500), (30, 1000)]);
 }
 
 #[test]

@@ -63,6 +63,15 @@ fn adds_and(n: usize, record: Record) -> Vec<u8> {
     log(&records)
 }
 
+/// So many open operations: removes at these places, and adds elsewhere.
+fn open_removes_in(n: usize, places: &[usize]) -> Vec<u8> {
+    let mut records = pending_adds(n);
+    for &at in places {
+        records[at] = call_remove(records[at].client, records[at].tick);
+    }
+    log(&records)
+}
+
 /// Logs of one record more than `n`, the last of which is at fault, with the refusal of each.
 fn faults_after(n: usize) -> Vec<(Vec<u8>, Answer)> {
     let (client, tick) = (n as u16, n as u32);
@@ -85,7 +94,7 @@ fn faults_after(n: usize) -> Vec<(Vec<u8>, Answer)> {
         (adds_and(n, return_add(client, tick)), 8),
         (adds_and(n, return_empty(0, tick)), 8),
         (adds_and(n, call_add(client, tick, u32::MAX)), 9),
-        (adds_and(n, call_remove(client, tick)), 10),
+        (open_removes_in(n + 1, &[0, n]), 10),
     ];
     let at_last = |(log, number): (Vec<u8>, u32)| (log, refused(number, tick));
     faults.into_iter().map(at_last).collect()
@@ -118,12 +127,22 @@ fn faults_of_the_whole_log_come_before_30_and_24() {
 }
 
 #[test]
-fn an_open_remove_anywhere_comes_before_30_and_24() {
+fn a_second_open_remove_anywhere_comes_before_30_and_24() {
     for n in [63, 64, 1024] {
+        for second in [1, n / 2, n - 1] {
+            let log = open_removes_in(n, &[0, second]);
+            assert_refused(&log, refused(10, second as u32));
+        }
+        let three = open_removes_in(n, &[2, n / 2, n - 1]);
+        assert_refused(&three, refused(10, n as u32 / 2));
+    }
+}
+
+#[test]
+fn one_open_remove_anywhere_does_not_come_before_30() {
+    for n in [64, 1024] {
         for at in [0, n / 2, n - 1] {
-            let mut records = pending_adds(n);
-            records[at] = call_remove(records[at].client, records[at].tick);
-            assert_refused(&log(&records), refused(10, at as u32));
+            assert_refused(&open_removes_in(n, &[at]), refused(30, 0));
         }
     }
 }

@@ -2,6 +2,7 @@
 
 use yauponroof_tests::compare::replay::Replays;
 use yauponroof_tests::library::replay;
+use yauponroof_tests::logs::insertion::with_pending_remove;
 use yauponroof_tests::logs::samples::{
     adds_then_removes, calls_then_returns, pending_adds, pending_adds_removed,
 };
@@ -155,4 +156,52 @@ fn the_one_add_that_returns_is_left_out() {
     for returned in 0..MAX_RECORDS - 1 {
         assert_not_left_out(returned, MAX_RECORDS - 1);
     }
+}
+
+/// An open remove as any record among adds that never return. It stands anywhere, takes one of their
+/// values or none, and nobody notices.
+#[test]
+fn an_open_remove_as_any_of_the_most_records() {
+    let adds = pending_adds(MAX_RECORDS - 1);
+    let mut replays = Replays::new();
+    for at in [0, 1, 511, 512, 1022, 1023] {
+        let log = log(&with_pending_remove(&adds, at));
+        let number = at as u16;
+        let mut order = call_order(MAX_RECORDS);
+        assert_eq!(replays.compare(&log, &sheet(&order)), YES, "record {at}");
+        order.retain(|&other| other != number);
+        assert_eq!(replays.compare(&log, &sheet(&order)), YES, "left out");
+        for place in [0, 1, 500, 1022, 1023] {
+            let mut once = order.clone();
+            once.insert(place, number);
+            assert_eq!(replays.compare(&log, &sheet(&once)), YES, "at {place}");
+            once.insert(MAX_RECORDS / 2, number);
+            assert_eq!(replays.compare(&log, &sheet(&once)), NO, "at {place}");
+        }
+        assert_eq!(replays.compare(&log, &sheet(&[number])), YES, "alone");
+        assert_eq!(replays.compare(&log, &sheet(&[number, number])), NO);
+    }
+}
+
+/// Adds and then the removes of all values but the first: the open remove has to take that one, when
+/// it is at the front.
+#[test]
+fn the_open_remove_takes_the_first_of_many_values() {
+    let records = with_pending_remove(&adds_then_removes(256, 1..256), 512);
+    let log = log(&records);
+    let open = 256;
+    let order = call_order(512);
+    assert_eq!(order[open], open as u16);
+    assert_eq!(replay(&log, &sheet(&order)), YES);
+    let mut without = order.clone();
+    without.remove(open);
+    assert_eq!(replay(&log, &sheet(&without)), NO);
+    for place in 0..512 {
+        let mut moved = without.clone();
+        moved.insert(place, open as u16);
+        // It is called behind all adds.
+        let expected = if place == open { YES } else { NO };
+        assert_eq!(replay(&log, &sheet(&moved)), expected, "at {place}");
+    }
+    compare_exchanges(&log, &order).assert_answered(0, 200);
 }

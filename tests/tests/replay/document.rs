@@ -1,4 +1,4 @@
-//! Replay on document 01's runs, and on what the document says of values, pending adds and
+//! Replay on document 01's runs, and on what the documents say of values, pending operations and
 //! precedence.
 
 use yauponroof_tests::compare::every_order::compare_every_list;
@@ -35,7 +35,7 @@ fn the_orders_of_the_document_are_legal() {
             orders += 1;
         }
     }
-    assert_eq!(orders, 8);
+    assert_eq!(orders, 9);
 }
 
 #[test]
@@ -130,6 +130,79 @@ fn a_pending_add_comes_behind_what_precedes_it() {
         legal_orders_of_run("R( R-) A1( A2( A2)"),
         [vec![0, 1, 2], vec![0, 2], vec![0, 2, 1]]
     );
+}
+
+/// "It may stand in an order once or be left out."
+#[test]
+fn a_pending_remove_is_listed_once_or_not_at_all() {
+    assert_eq!(legal_orders_of_run("R("), [vec![], vec![0]]);
+    // On an empty queue it changes nothing.
+    assert_eq!(
+        legal_orders_of_run("Ra( Rb( Rb-)"),
+        [vec![0, 1], vec![1], vec![1, 0]]
+    );
+    // It may take a value that stays, or stand before that is added.
+    assert_eq!(legal_orders_of_run("A1( A1) R("), [vec![0], vec![0, 1]]);
+    assert_eq!(
+        legal_orders_of_run("R( A1( A1)"),
+        [vec![0, 1], vec![1], vec![1, 0]]
+    );
+    let log = log(&run("A1( A1) R("));
+    for twice in [&[0, 1, 1][..], &[1, 0, 1], &[1, 1, 0], &[1, 1]] {
+        assert_eq!(replay(&log, &sheet(twice)), NO, "{twice:?}");
+    }
+}
+
+/// "Where it stands, it takes the front value if there is one."
+#[test]
+fn a_pending_remove_takes_the_front_value() {
+    // It does not take the value that the other one returned.
+    assert_eq!(
+        legal_orders_of_run("A1( A1) Ro( R( R1)"),
+        [vec![0, 2], vec![0, 2, 1]]
+    );
+    // Only if it stands between the add and the empty remove has that met an empty queue.
+    assert_eq!(legal_orders_of_run("A1( A1) Ro( R( R-)"), [[0, 1, 2]]);
+    assert_eq!(legal_orders_of_run("Ro( A1( A1) R( R-)"), [[1, 0, 2]]);
+    // It takes the first of two values, and the second stays or is removed.
+    assert_eq!(
+        legal_orders_of_run("A1( A1) A2( A2) Ro( R( R2)"),
+        [[0, 1, 2, 3]]
+    );
+    assert_eq!(
+        legal_orders_of_run("Ro( A1( A1) A2( A2) R( R2)"),
+        [[1, 0, 2, 3], [1, 2, 0, 3]]
+    );
+    // The value of a pending add may be the front one.
+    assert_eq!(
+        legal_orders_of_run("A1( Ro( R( R-)"),
+        [
+            vec![0, 1, 2],
+            vec![1, 2],
+            vec![1, 2, 0],
+            vec![2],
+            vec![2, 0],
+            vec![2, 0, 1],
+            vec![2, 1],
+            vec![2, 1, 0]
+        ]
+    );
+    // 0 is a value as any other.
+    assert_eq!(legal_orders_of_run("A0( A0) Ro( R( R-)"), [[0, 1, 2]]);
+    assert_eq!(
+        legal_orders_of_run("A0( A0) Ro( R( R0)"),
+        [vec![0, 2], vec![0, 2, 1]]
+    );
+}
+
+#[test]
+fn a_pending_remove_comes_behind_what_precedes_it() {
+    assert_eq!(legal_orders_of_run("R( R-) Ro("), [vec![0], vec![0, 1]]);
+    // It would have to come before the removes that have returned.
+    assert!(legal_orders_of_run("A1( A1) R( R-) Ro(").is_empty());
+    assert!(legal_orders_of_run("A1( A1) A2( A2) R( R2) Ro(").is_empty());
+    let later = log(&run("A1( A1) A2( A2) R( R2) Ro("));
+    assert_eq!(replay(&later, &sheet(&[0, 1, 3, 2])), NO);
 }
 
 #[test]

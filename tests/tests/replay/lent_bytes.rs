@@ -54,8 +54,11 @@ fn runs_with_their_orders() {
         };
         lender.compare(&log(&run(text)), &sheet(order));
     }
+    let mut random = Random::new(257);
     for run in runs_of_all_sizes() {
         lender.compare(&log(&run.records), &sheet(&run.order));
+        let open = run.with_pending_remove(&mut random);
+        lender.compare(&log(&open.records), &sheet(&open.order));
     }
     let all: Vec<u16> = (0..1024).collect();
     lender.compare(&log(&pending_adds(1024)), &sheet(&all));

@@ -6,7 +6,7 @@ use yauponroof_tests::logs::ticks::rising;
 use yauponroof_tests::model::record::{call_add, call_remove, return_add, return_empty, Record};
 use yauponroof_tests::model::sheet::sheet;
 use yauponroof_tests::model::writer::log;
-use yauponroof_tests::YES;
+use yauponroof_tests::{NO, YES};
 
 /// What all operations of a log do.
 #[derive(Clone, Copy)]
@@ -156,6 +156,36 @@ fn a_pending_add_stands_anywhere_behind_what_precedes_it() {
         }
     }
     replays.assert_answered(14, 30);
+}
+
+/// It takes the front value of a queue from which nobody else takes, or finds none.
+#[test]
+fn a_pending_remove_stands_anywhere_behind_what_precedes_it() {
+    let mut replays = Replays::new();
+    for all in All::BOTH {
+        for width in 0..=3 {
+            let stairs = Staircase::new(12, width, all);
+            let last = all.call(stairs.count - 1);
+            let last_call = stairs.records.iter().position(|record| *record == last);
+            let mut records = stairs.records.clone();
+            let open = All::MeetEmpty.call(stairs.count);
+            records.insert(last_call.unwrap() + 1, open);
+            let log = log(&rising(&records));
+            for place in 0..=stairs.count {
+                let mut order = stairs.call_order();
+                order.insert(place, stairs.count as u16);
+                let answer = replays.compare(&log, &sheet(&order));
+                let legal = place + width + 1 >= stairs.count;
+                assert_eq!(answer == YES, legal, "place {place}, width {width}");
+                // It may be left out, and may not stand there twice.
+                order.insert(stairs.count, stairs.count as u16);
+                assert_eq!(replays.compare(&log, &sheet(&order)), NO);
+            }
+            let without = sheet(&stairs.call_order());
+            assert_eq!(replays.compare(&log, &without), YES);
+        }
+    }
+    replays.assert_answered(36, 60);
 }
 
 #[test]

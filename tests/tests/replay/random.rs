@@ -2,7 +2,7 @@
 //! the legal orders.
 
 use yauponroof_tests::compare::replay::Replays;
-use yauponroof_tests::logs::enumerate::random_log;
+use yauponroof_tests::logs::enumerate::{random_log, random_log_with_pending_remove};
 use yauponroof_tests::logs::simulation::{simulate_run, Clients};
 use yauponroof_tests::model::all_linearizations::linearizations;
 use yauponroof_tests::model::history::operations;
@@ -15,7 +15,7 @@ use yauponroof_tests::YES;
 /// More operations than this have too many orders to find all.
 const MOST_OPERATIONS: usize = 6;
 
-/// All returned operations and some of the pending adds, in any order.
+/// All returned operations and some of the pending ones, in any order.
 fn random_order(records: &[Record], random: &mut Random) -> Vec<u16> {
     let mut order = Vec::new();
     for (number, operation) in (0..).zip(operations(records)) {
@@ -67,4 +67,33 @@ fn short_runs_of_a_queue() {
         compare_orders(&run.records, &mut random, &mut replays);
     }
     replays.assert_answered(25_000, 12_000);
+}
+
+#[test]
+fn random_logs_with_an_open_remove() {
+    let mut random = Random::new(252);
+    let mut replays = Replays::new();
+    for _ in 0..20_000 {
+        let least = random.below(11);
+        let records = random_log_with_pending_remove(least, &mut random);
+        if operations(&records).len() <= MOST_OPERATIONS {
+            compare_orders(&records, &mut random, &mut replays);
+        }
+    }
+    replays.assert_answered(65_000, 55_000);
+}
+
+#[test]
+fn short_runs_of_a_queue_with_an_open_remove() {
+    let mut random = Random::new(253);
+    let mut replays = Replays::new();
+    for seed in 0..6000 {
+        let workers = 1 + random.below(5) as u16;
+        let n = 2 * random.below(MOST_OPERATIONS + 1);
+        let run = simulate_run(workers, Clients::Reused, n, seed);
+        let run = run.with_pending_adds(10, &mut random);
+        let open = run.with_pending_remove(&mut random);
+        compare_orders(&open.records, &mut random, &mut replays);
+    }
+    replays.assert_answered(36_000, 13_000);
 }

@@ -33,7 +33,7 @@ impl Sample {
     /// The same with the order that the judge would list: it has a pending add exactly if its value
     /// was removed.
     fn as_judged(&self) -> Sample {
-        let listed = |&&number: &&u16| !self.is_pending(number) || self.is_removed(number);
+        let listed = |&&number: &&u16| !self.is_pending_add(number) || self.is_removed(number);
         Sample {
             log: self.log.clone(),
             operations: self.operations.clone(),
@@ -45,8 +45,13 @@ impl Sample {
         &self.operations[usize::from(number)]
     }
 
-    fn is_pending(&self, number: u16) -> bool {
-        self.operation(number).returned.is_none()
+    fn is_pending_add(&self, number: u16) -> bool {
+        let operation = self.operation(number);
+        matches!(operation.action, Action::Add(_)) && operation.returned.is_none()
+    }
+
+    fn is_pending_remove(&self, number: u16) -> bool {
+        self.operation(number).action == Action::PendingRemove
     }
 
     /// Whether some remove returned what this operation adds.
@@ -106,7 +111,7 @@ fn an_empty_remove_moved(sample: &Sample, random: &mut Random) -> Option<Vec<u16
 }
 
 fn a_pending_add_moved(sample: &Sample, random: &mut Random) -> Option<Vec<u16>> {
-    let from = sample.place_of(random, |number| sample.is_pending(number))?;
+    let from = sample.place_of(random, |number| sample.is_pending_add(number))?;
     Some(moved(&sample.order, from, random))
 }
 
@@ -133,7 +138,7 @@ fn one_left_out(sample: &Sample, random: &mut Random) -> Option<Vec<u16>> {
 
 fn a_pending_add_left_out(sample: &Sample, random: &mut Random) -> Option<Vec<u16>> {
     let mut order = sample.order.clone();
-    order.remove(sample.place_of(random, |number| sample.is_pending(number))?);
+    order.remove(sample.place_of(random, |number| sample.is_pending_add(number))?);
     Some(order)
 }
 
@@ -151,6 +156,24 @@ fn a_number_that_the_log_lacks(sample: &Sample, random: &mut Random) -> Option<V
     let lacking = [count, count + 1, count | 0x8000, 1024, 65_535];
     let place = place_near(order.len(), order.len(), random);
     order.insert(place, *random.pick(&lacking));
+    Some(order)
+}
+
+fn the_pending_remove_moved(sample: &Sample, random: &mut Random) -> Option<Vec<u16>> {
+    let from = sample.place_of(random, |number| sample.is_pending_remove(number))?;
+    Some(moved(&sample.order, from, random))
+}
+
+fn the_pending_remove_left_out(sample: &Sample, random: &mut Random) -> Option<Vec<u16>> {
+    let mut order = sample.order.clone();
+    order.remove(sample.place_of(random, |number| sample.is_pending_remove(number))?);
+    Some(order)
+}
+
+fn the_pending_remove_repeated(sample: &Sample, random: &mut Random) -> Option<Vec<u16>> {
+    let mut order = sample.order.clone();
+    let from = sample.place_of(random, |number| sample.is_pending_remove(number))?;
+    order.insert(place_near(from, order.len(), random), sample.order[from]);
     Some(order)
 }
 
@@ -212,4 +235,46 @@ fn orders_spoilt_in_one_place() {
 #[test]
 fn orders_spoilt_in_one_place_with_clients_apart() {
     compare_spoilt_orders(&runs_with_clients_apart());
+}
+
+/// The ways to spoil an order of a log with an open remove.
+const WAYS_WITH_PENDING_REMOVE: [Way<Sample, Vec<u16>>; 6] = [
+    Way::new("neighbours exchanged", neighbours_exchanged, 400, 650),
+    Way::new("one moved", one_moved, 150, 800),
+    Way::new("one left out", one_left_out, 10, 900),
+    Way::new("pending remove moved", the_pending_remove_moved, 100, 500),
+    Way::new(
+        "pending remove left out",
+        the_pending_remove_left_out,
+        50,
+        500,
+    ),
+    Way::new(
+        "pending remove repeated",
+        the_pending_remove_repeated,
+        0,
+        1000,
+    ),
+];
+
+/// The runs without the return of one remove, each.
+fn with_pending_remove(runs: &[Run]) -> Vec<Run> {
+    let mut random = Random::new(254);
+    let lost = runs.iter().map(|run| run.with_pending_remove(&mut random));
+    lost.collect()
+}
+
+#[test]
+fn orders_of_logs_with_an_open_remove_spoilt_in_one_place() {
+    let runs = with_pending_remove(&runs_of_all_sizes());
+    let samples: Vec<Sample> = runs.iter().map(Sample::new).collect();
+    let mut replays = Replays::new();
+    for sample in &samples {
+        let answer = replays.compare(&sample.log, &sheet(&sample.order));
+        assert_eq!(answer, YES);
+    }
+    replays.assert_answered(120, 0);
+    compare_spoilt(&samples, &WAYS_WITH_PENDING_REMOVE, |sample, order| {
+        (sample.log.clone(), sheet(order))
+    });
 }

@@ -137,7 +137,7 @@ fn every_length_for_the_runs_of_the_document() {
         excerpts += compare_excerpts(&log, (0..=log.len() + 5).chain([LOG_MAX, 1 << 20]));
     }
     // Of each of the seven logs with a pattern every record is kept.
-    assert_eq!((sheets, excerpts), (528, 7 * 8));
+    assert_eq!((sheets, excerpts), (568, 7 * 8));
 }
 
 #[test]

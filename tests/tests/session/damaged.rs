@@ -6,6 +6,7 @@ use yauponroof_tests::compare::session::{Compared, Entry, Seen};
 use yauponroof_tests::compare::whole_session::compare_closing;
 use yauponroof_tests::library::check;
 use yauponroof_tests::logs::damage::telling_values;
+use yauponroof_tests::logs::insertion::with_pending_remove;
 use yauponroof_tests::logs::notation::run;
 use yauponroof_tests::logs::samples::RUNS;
 use yauponroof_tests::logs::simulation::{simulate, Clients};
@@ -80,9 +81,11 @@ fn all_bytes(records: &[Record]) -> Vec<Vec<u8>> {
     records.iter().map(record_bytes).collect()
 }
 
-/// Document 01's runs, and simulated ones of a few records in batches.
+/// Document 01's runs, some with an open remove, and simulated ones of a few records in batches.
 fn short_logs() -> Vec<Vec<Vec<u8>>> {
     let mut logs: Vec<_> = RUNS.iter().map(|(text, ..)| run(text)).collect();
+    logs.push(run("Ro( A1( A1) R( R1)"));
+    logs.push(run("A1( A1) A2( Ro( A2) R( R2) Rb( Rb-)"));
     let mut random = Random::new(237);
     for seed in 0..3 {
         for records in [
@@ -91,6 +94,10 @@ fn short_logs() -> Vec<Vec<Vec<u8>>> {
         ] {
             logs.push(in_batches(&records, 3, &mut random));
         }
+    }
+    for seed in 0..3 {
+        let run = simulate(3, Clients::OnePerOperation, 8, seed);
+        logs.push(with_pending_remove(&run, 3));
     }
     logs.iter().map(|records| all_bytes(records)).collect()
 }
@@ -121,7 +128,7 @@ fn each_byte_changed() {
         (31, 30),
     ];
     seen.assert_at_least(Entry::Feed, &feeds);
-    seen.assert_at_least(Entry::Close, &[(0, 7500), (10, 2700)]);
+    seen.assert_at_least(Entry::Close, &[(0, 7500), (10, 1000)]);
 }
 
 #[test]
@@ -158,7 +165,7 @@ fn each_record_in_the_place_of_each_other() {
     }
     let feeds = [(0, 7000), (6, 700), (7, 250), (8, 500), (31, 20)];
     seen.assert_at_least(Entry::Feed, &feeds);
-    seen.assert_at_least(Entry::Close, &[(0, 300), (10, 40)]);
+    seen.assert_at_least(Entry::Close, &[(0, 300), (10, 12)]);
 }
 
 /// A call of remove by the client of this record, at its tick.

@@ -40,10 +40,12 @@ fn numbers(session: &Compared) -> (u32, u32) {
     (stage, used)
 }
 
-/// Runs with an order and with a pattern, and one that is readable but for 10.
+/// Runs with an order and with a pattern, one with an open remove, and one that is readable but for
+/// 10.
 const ORDER: &str = "A7( A7) R( R7)";
 const PATTERN: &str = "A1( A1) A2( A2) R( R2)";
 const OPEN_REMOVE: &str = "A7( A7) R(";
+const TWO_OPEN_REMOVES: &str = "A7( Ra( A7) Rb(";
 
 /// "Beginning writes 01 00 00 (hexadecimal)." "An accepted call that writes returns how many bytes
 /// it wrote; bytes behind them keep their contents."
@@ -106,10 +108,38 @@ fn the_runs_of_the_document() {
 /// "For a log that is readable, or is so but for 10, and buffers long enough, feeding its records
 /// and closing answers as judging the log does."
 #[test]
-fn a_remove_without_return_is_told_as_judging_tells_it() {
-    for (text, index) in [("R(", 0), (OPEN_REMOVE, 2), ("A1( Ra( A1) Rb( Rb1)", 1)] {
+fn a_second_remove_without_return_is_told_as_judging_tells_it() {
+    for (text, index) in [
+        ("Ra( Rb(", 1),
+        (TWO_OPEN_REMOVES, 3),
+        ("Ra( Rb( A1( Rc(", 1),
+        ("A1( Ra( A1) Rb( Rb1) Rc(", 5),
+    ] {
         assert_eq!(judged(&log(&run(text))), Err(refused(10, index)), "{text}");
         assert_eq!(compare_whole(&run(text)), Err(refused(10, index)), "{text}");
+    }
+}
+
+/// A session is closed over a log with one open remove, and tells the verdict as judging does. "For
+/// such logs the archive keeps the sheet alone."
+#[test]
+fn a_session_is_closed_over_one_open_remove() {
+    for (text, sheet) in [
+        ("R(", "01 00 0000"),
+        (OPEN_REMOVE, "01 00 0001 0000"),
+        ("A1( A1) Ro( R( R-)", "01 00 0003 0000 0001 0002"),
+        ("A1( A1) R( R-) Ro(", "01 06 0002 0001 0000"),
+        ("Ro( R( R9)", "01 01 0001 0001"),
+    ] {
+        assert_eq!(compare_whole(&run(text)), Ok(hex(sheet)), "{text}");
+        let mut session = closed(text);
+        assert_eq!(session.state().session.stage, CLOSED, "{text}");
+        assert_eq!(session.sheet(SHEET_MAX), Ok(hex(sheet)), "{text}");
+        for room in [0, 3, 100] {
+            assert_eq!(session.excerpt(room), Err(refused(32, 0)), "{text}");
+        }
+        assert_eq!(session.close(SHEET_MAX), Err(refused(20, 0)), "{text}");
+        assert_eq!(session.feed(&hex(ADD_CALLED)), refused(20, 0), "{text}");
     }
 }
 
@@ -225,7 +255,7 @@ fn a_closed_session_takes_no_feed_and_no_close() {
 /// "22: sheet or excerpt from an open session."
 #[test]
 fn an_open_session_gives_no_sheet_and_no_excerpt() {
-    for text in ["", ORDER, PATTERN, OPEN_REMOVE] {
+    for text in ["", ORDER, PATTERN, OPEN_REMOVE, TWO_OPEN_REMOVES] {
         let session = fed(&run(text));
         for room in [0, 3, 4, 8, 100] {
             assert_eq!(session.sheet(room), Err(refused(22, 0)), "{text}");
@@ -296,7 +326,7 @@ fn a_stage_that_is_none() {
         1 << 31,
         u32::MAX,
     ] {
-        for text in ["", ORDER, PATTERN, OPEN_REMOVE] {
+        for text in ["", ORDER, PATTERN, OPEN_REMOVE, TWO_OPEN_REMOVES] {
             let mut session = fed(&run(text));
             session.tamper(|state| state.session.stage = stage);
             assert_unfit(session);
@@ -357,12 +387,24 @@ fn a_log_that_is_not_readable() {
 /// "Open session: readable but for 10": the same log is held by an open session, and not by a closed
 /// one.
 #[test]
-fn a_remove_without_return_is_held_by_an_open_session_alone() {
-    for text in ["R(", OPEN_REMOVE] {
+fn two_removes_without_return_are_held_by_an_open_session_alone() {
+    for text in ["Ra( Rb(", TWO_OPEN_REMOVES, "Ra( Rb( Rc("] {
         let mut session = fed(&run(text));
         assert_eq!(session.sheet(SHEET_MAX), Err(refused(22, 0)));
         session.tamper(|state| state.session.stage = CLOSED);
         assert_unfit(session);
+    }
+}
+
+/// A log with one remove without return is readable, so that a closed session holds it as well.
+#[test]
+fn one_remove_without_return_is_held_by_a_closed_session() {
+    for text in ["R(", OPEN_REMOVE] {
+        let mut session = fed(&run(text));
+        session.tamper(|state| state.session.stage = CLOSED);
+        assert_eq!(session.sheet(SHEET_MAX), judged(&log(&run(text))));
+        assert_eq!(session.excerpt(SHEET_MAX), Err(refused(32, 0)));
+        assert_eq!(session.close(SHEET_MAX), Err(refused(20, 0)));
     }
 }
 

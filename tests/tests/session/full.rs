@@ -1,6 +1,7 @@
 //! Sessions that hold the most records, 1,024: "21: feed when 1,024 records are held."
 
 use yauponroof_tests::compare::whole_session::{compare_closing, compare_whole, fed, holding};
+use yauponroof_tests::logs::insertion::with_pending_remove;
 use yauponroof_tests::logs::samples::{calls_then_returns, pending_adds};
 use yauponroof_tests::logs::simulation::{simulate, Clients};
 use yauponroof_tests::model::reader::{LOG_MAX, MAX_RECORDS};
@@ -87,8 +88,9 @@ fn a_simulated_log_of_the_most_records_is_fed_record_by_record() {
 }
 
 #[test]
-fn a_full_session_with_a_remove_without_return_cannot_be_closed() {
+fn a_full_session_with_two_removes_without_return_cannot_be_closed() {
     let mut records = pending_adds(MAX_RECORDS - 1);
+    records[7] = call_remove(7, 7);
     records.push(call_remove(u16::MAX, u32::MAX));
     let mut session = holding(&log(&records), OPEN, 20);
     let returned = record_bytes(&return_value(u16::MAX, u32::MAX, u32::MAX));
@@ -96,6 +98,18 @@ fn a_full_session_with_a_remove_without_return_cannot_be_closed() {
     let refusal = refused(10, MAX_RECORDS as u32 - 1);
     assert_eq!(session.close(2000), Err(refusal));
     assert_eq!(session.state().session.stage, OPEN);
+}
+
+#[test]
+fn a_full_session_with_one_remove_without_return_is_closed() {
+    for at in [0, 511, MAX_RECORDS - 1] {
+        let records = with_pending_remove(&pending_adds(MAX_RECORDS - 1), at);
+        let mut session = holding(&log(&records), OPEN, 20);
+        assert_eq!(session.feed(&next_record()), refused(21, 0));
+        let closed = compare_closing(&mut session, &log(&records));
+        assert_eq!(closed, Ok(vec![1, 0, 0, 0]), "record {at}");
+        assert_eq!(session.feed(&next_record()), refused(20, 0));
+    }
 }
 
 #[test]

@@ -248,14 +248,18 @@ fn the_runs_of_the_document_and_logs_that_are_refused() {
     lender.assert_at_least(650, 1100);
 }
 
-/// Logs of the most records but one, and of the most: an order and a pattern.
+/// Logs of the most records but one, and of the most: an order and a pattern, and an order with an
+/// open remove.
 fn long_logs() -> Vec<Vec<Record>> {
     let text = "A1( A1) A2( A2) R( R2)";
     let before = MAX_RECORDS - text.split_whitespace().count();
+    let open = "A1( A1) A2( A2) Ro( R( R2)";
+    let behind = MAX_RECORDS - open.split_whitespace().count();
     vec![
         simulate(8, Clients::Reused, MAX_RECORDS, 216),
         pending_adds(MAX_RECORDS - 1),
         with_run(&pending_adds(before), &[(before, text)]),
+        with_run(&pending_adds(behind), &[(0, open)]),
     ]
 }
 

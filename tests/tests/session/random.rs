@@ -4,28 +4,34 @@
 
 use yauponroof_tests::compare::random_script::Author;
 use yauponroof_tests::compare::session::{Entry, Seen};
-use yauponroof_tests::logs::enumerate::random_log;
+use yauponroof_tests::logs::enumerate::{random_log, random_log_with_pending_remove};
 use yauponroof_tests::logs::insertion::with_run;
 use yauponroof_tests::logs::notation::run;
 use yauponroof_tests::logs::samples::RUNS;
-use yauponroof_tests::logs::simulation::{simulate, Clients};
+use yauponroof_tests::logs::simulation::{simulate, simulate_run, Clients};
 use yauponroof_tests::logs::ticks::in_batches;
 use yauponroof_tests::model::record::Record;
 use yauponroof_tests::random::Random;
 
-/// A log of a few records: any, one of the document's, or a simulated one.
+/// A log of a few records: any, one of the document's, or a simulated one. Some have an open remove.
 fn short_plan(random: &mut Random) -> Vec<Record> {
-    let records = match random.below(4) {
+    let records = match random.below(6) {
         0 => random_log(random.next_u64() as usize % 7, random),
-        1 => simulate(2, Clients::Reused, 8, random.next_u64()),
+        1 => random_log_with_pending_remove(random.next_u64() as usize % 7, random),
+        2 => simulate(2, Clients::Reused, 8, random.next_u64()),
         _ => run(random.pick(&RUNS).0),
     };
     with_some_batches(records, random)
 }
 
-/// A simulated log of some hundred records with one of the document's runs put in.
+/// A simulated log of some hundred records with one of the document's runs put in. In some a remove
+/// does not return.
 fn long_plan(random: &mut Random) -> Vec<Record> {
-    let sound = simulate(6, Clients::Reused, 150, random.next_u64());
+    let run = simulate_run(6, Clients::Reused, 150, random.next_u64());
+    let sound = match random.below(3) {
+        0 => run.with_pending_remove(random).records,
+        _ => run.records,
+    };
     let at = random.below(sound.len() + 1);
     let records = with_run(&sound, &[(at, random.pick(&RUNS).0)]);
     with_some_batches(records, random)
@@ -43,7 +49,7 @@ fn with_some_batches(records: Vec<Record>, random: &mut Random) -> Vec<Record> {
 fn short_scripts() {
     let mut random = Random::new(201);
     let mut seen = Seen::new();
-    for _ in 0..40_000 {
+    for _ in 0..52_000 {
         let plan = short_plan(&mut random);
         let steps = 4 + random.below(20);
         Author::new(plan, 14, &mut random).play(steps, &mut seen);
@@ -66,7 +72,7 @@ fn short_scripts() {
     seen.assert_at_least(Entry::Feed, &feeds);
     let closings = [
         (0, 20_000),
-        (10, 15_000),
+        (10, 2000),
         (20, 3000),
         (24, 10_000),
         (25, 10_000),
@@ -80,6 +86,7 @@ fn short_scripts() {
         (23, 10_000),
         (24, 1000),
         (25, 3000),
+        (32, 7000),
     ];
     seen.assert_at_least(Entry::Excerpt, &excerpts);
 }
@@ -88,7 +95,7 @@ fn short_scripts() {
 fn long_scripts() {
     let mut random = Random::new(202);
     let mut seen = Seen::new();
-    for _ in 0..150 {
+    for _ in 0..220 {
         let plan = long_plan(&mut random);
         Author::new(plan, 60, &mut random).play(300, &mut seen);
     }
@@ -108,10 +115,10 @@ fn long_scripts() {
         (31, 30),
     ];
     seen.assert_at_least(Entry::Feed, &feeds);
-    let closings = [(0, 80), (10, 2000), (20, 5), (24, 50), (25, 1000)];
+    let closings = [(0, 80), (10, 1500), (20, 5), (24, 50), (25, 1000)];
     seen.assert_at_least(Entry::Close, &closings);
     let sheets = [(0, 60), (22, 500), (24, 40), (25, 50)];
     seen.assert_at_least(Entry::Sheet, &sheets);
-    let excerpts = [(0, 50), (22, 500), (23, 15), (24, 30), (25, 50)];
+    let excerpts = [(0, 50), (22, 500), (23, 15), (24, 30), (25, 50), (32, 80)];
     seen.assert_at_least(Entry::Excerpt, &excerpts);
 }

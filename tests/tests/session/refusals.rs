@@ -1,6 +1,6 @@
 //! The refusals of sessions in their order, where more than one of them would do: "Feed: 25, 20,
-//! 21, the input list, 24. Others: 25, then 20 or 22, then the input list, 23, 24." And what index
-//! each carries, and that a refused call changes nothing.
+//! 21, the input list, 24. Others: 25, then 20 or 22, then the input list, 23, 24", and 32 before 23.
+//! And what index each carries, and that a refused call changes nothing.
 
 use yauponroof_tests::compare::session::Compared;
 use yauponroof_tests::compare::whole_session::{fed, holding};
@@ -73,7 +73,7 @@ fn an_unfit_session_is_told_before_all() {
     let mut unfit = 0;
     let logs = refused_logs();
     let unfits = logs.iter().flat_map(|log| [(log, OPEN), (log, CLOSED)]);
-    // With a remove without return, which is the last log, an open session fits.
+    // With two removes without return, which is the last log, an open session fits.
     for (log, stage) in unfits.filter(|&(log, stage)| !(stage == OPEN && log == &logs[10])) {
         for behind in [0, 40] {
             let mut session = holding(log, stage, behind);
@@ -130,30 +130,43 @@ fn a_full_session_is_told_before_the_input_list_and_behind_25_and_20() {
 }
 
 #[test]
-fn a_remove_without_return_is_told_before_a_short_sheet_and_leaves_the_session_open() {
-    let mut session = holding(&log(&run("A7( A7) R(")), OPEN, 20);
+fn a_second_remove_without_return_is_told_before_a_short_sheet_and_leaves_the_session_open() {
+    let mut session = holding(&log(&run("A7( A7) Ra( Rb(")), OPEN, 20);
     for room in [0, 3, 4, 8, SHEET_MAX] {
-        assert_eq!(session.close(room), Err(refused(10, 2)));
+        assert_eq!(session.close(room), Err(refused(10, 3)));
         assert_eq!(session.state().session.stage, OPEN);
+        assert_eq!(session.excerpt(room), Err(refused(22, 0)));
     }
-    // The missing return is fed, and the session can be closed.
-    let returned = hex("0B 04 0002 00000004 00000007");
+    // The return of the first is fed, and the session can be closed.
+    let returned = hex("0B 04 0002 00000005 00000007");
     assert_eq!(session.feed(&returned), Answer::Accepted(12));
+    assert_eq!(session.close(7), Err(refused(24, 0)));
     assert_eq!(session.close(8), Ok(hex("01 00 0002 0000 0001")));
+    assert_eq!(session.excerpt(0), Err(refused(32, 0)));
 }
 
 #[test]
 fn a_short_sheet_leaves_the_session_open() {
-    let mut session = holding(&log(&run("A7( A7)")), OPEN, 20);
+    let mut session = holding(&log(&run("A7( A7)")), OPEN, 40);
     for room in 0..6 {
         assert_eq!(session.close(room), Err(refused(24, 0)));
         assert_eq!(session.sheet(room), Err(refused(22, 0)));
     }
     let called = hex("07 02 0002 00000003");
     assert_eq!(session.feed(&called), Answer::Accepted(8));
-    assert_eq!(session.close(6), Err(refused(10, 2)));
+    assert_eq!(session.close(5), Err(refused(24, 0)));
+    assert_eq!(session.clone().close(6), Ok(hex("01 00 0001 0000")));
+    let called_too = hex("07 02 0003 00000003");
+    assert_eq!(session.feed(&called_too), Answer::Accepted(8));
+    assert_eq!(session.close(6), Err(refused(10, 3)));
     let returned = hex("07 05 0002 00000004");
     assert_eq!(session.feed(&returned), Answer::Accepted(8));
+    // The remove that is open still took the value.
+    let order = hex("01 00 0003 0000 0002 0001");
+    assert_eq!(session.close(9), Err(refused(24, 0)));
+    assert_eq!(session.clone().close(10), Ok(order));
+    let returned_too = hex("07 05 0003 00000004");
+    assert_eq!(session.feed(&returned_too), Answer::Accepted(8));
     assert_eq!(session.close(7), Err(refused(24, 0)));
     assert_eq!(session.close(8), Ok(hex("01 06 0002 0001 0000")));
 }
@@ -166,6 +179,29 @@ fn an_open_session_is_told_before_an_order_and_before_a_short_buffer() {
             assert_eq!(session.sheet(room), Err(refused(22, 0)), "{text}");
             assert_eq!(session.excerpt(room), Err(refused(22, 0)), "{text}");
         }
+    }
+}
+
+/// 32 comes behind 25 and 22, and before 23 and 24.
+#[test]
+fn an_open_remove_is_told_before_an_order_and_before_a_short_buffer() {
+    for text in [
+        "R(",
+        "A7( A7) Ro( R( R7)",
+        "A7( A7) Ro( R( R-)",
+        "A7( A7) R( R-) Ro(",
+    ] {
+        let log = log(&run(text));
+        for room in [0, 1, 2, 3, log.len(), SHEET_MAX] {
+            for (stage, number) in [(OPEN, 22), (CLOSED, 32), (2, 25)] {
+                let session = holding(&log, stage, 0);
+                assert_eq!(session.excerpt(room), Err(refused(number, 0)), "{text}");
+            }
+        }
+        // The used bytes do not fit.
+        let mut unfit = holding(&log, CLOSED, 0);
+        unfit.tamper(|state| state.session.used -= 1);
+        assert_eq!(unfit.excerpt(0), Err(refused(25, 0)), "{text}");
     }
 }
 

@@ -22,6 +22,8 @@ fn logs() -> Vec<Vec<Record>> {
     for seed in 0..6 {
         let n = [20, 60, 120][seed as usize % 3];
         let run = simulate_load(Load::Busy, 4, Clients::Reused, n, seed);
+        let open = run.drained().with_pending_remove(&mut Random::new(seed));
+        logs.push(open.records);
         logs.push(run.drained().records);
         logs.push(run.records);
     }

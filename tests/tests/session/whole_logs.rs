@@ -4,7 +4,7 @@
 
 use yauponroof_tests::compare::whole_session::{compare_closing, compare_whole, holding};
 use yauponroof_tests::logs::chain::{chain, Last};
-use yauponroof_tests::logs::enumerate::random_log;
+use yauponroof_tests::logs::enumerate::{random_log, random_log_with_pending_remove};
 use yauponroof_tests::logs::insertion::{with_empty_removes, with_run};
 use yauponroof_tests::logs::notation::run;
 use yauponroof_tests::logs::samples::{longest_false_empty, Verdict, RUNS};
@@ -112,6 +112,36 @@ fn chains() {
     assert_eq!(verdict(&longest), FALSE_EMPTY);
 }
 
+#[test]
+fn random_logs_with_an_open_remove() {
+    let mut random = Random::new(255);
+    let mut seen = [0; 7];
+    for _ in 0..3000 {
+        let least = 4 + random.below(12);
+        let records = random_log_with_pending_remove(least, &mut random);
+        seen[usize::from(verdict(&records))] += 1;
+    }
+    assert_eq!(seen, [928, 593, 532, 669, 147, 9, 122]);
+}
+
+#[test]
+fn simulated_logs_of_which_a_consumer_never_came_back() {
+    let mut random = Random::new(256);
+    let mut orders = 0;
+    for load in [Load::Even, Load::Busy] {
+        for (workers, n) in [(3, 20), (3, 200), (8, 60), (64, 200), (8, MAX_RECORDS)] {
+            let run = simulate_load(load, workers, Clients::Reused, n, random.next_u64());
+            let pending = run.with_pending_adds(20, &mut random);
+            for run in [run, pending] {
+                let open = run.with_pending_remove(&mut random);
+                assert_eq!(verdict(&open.records), 0);
+                orders += 1;
+            }
+        }
+    }
+    assert_eq!(orders, 20);
+}
+
 /// The records without the returns of some removes, one of so many. A client whose remove stays open
 /// calls nothing more.
 fn with_open_removes(records: &[Record], one_in: usize, random: &mut Random) -> Vec<Record> {
@@ -136,27 +166,33 @@ fn logs_with_removes_that_have_not_returned() {
     for round in 0..150 {
         let n = [10, 40, 160][round % 3];
         let run = simulate_load(Load::Even, 12, Clients::Reused, n, random.next_u64());
-        let records = with_open_removes(&run.records, 1 + n / 8, &mut random);
+        let records = with_open_removes(&run.records, 1 + n / 20, &mut random);
         let Err(Refusal(10, index)) = reader::read(&log(&records)) else {
             continue;
         };
         assert_eq!(compare_whole(&records), Err(refused(10, index as u32)));
         refusals += 1;
     }
-    assert_eq!(refusals, 117);
+    assert_eq!(refusals, 126);
 }
 
-/// The earliest remove without return is told, and once its return is fed, the next one.
+/// The second remove without return is told, and once one has returned, the next one, until one is
+/// left.
 #[test]
 fn a_session_can_be_closed_when_the_missing_returns_are_fed() {
-    let records = run("A1( A1) Ra( Rb( A2( Rc( Rb-) Ra1) Rc2)");
-    let (open, returns) = records.split_at(6);
-    let mut session = holding(&log(open), OPEN, 40);
-    for (record, earliest) in returns.iter().zip([2, 2, 5]) {
-        assert_eq!(session.close(SHEET_MAX), Err(refused(10, earliest)));
+    let records = run("A1( A1) Ra( Rb( A2( Rc( Rd( Rb-) Ra1) Rd-) Rc2)");
+    let (open, returns) = records.split_at(7);
+    let mut session = holding(&log(open), OPEN, 50);
+    for (record, second) in returns.iter().zip([3, 5, 6]) {
+        assert_eq!(session.close(SHEET_MAX), Err(refused(10, second)));
         let record = record_bytes(record);
         assert_eq!(session.feed(&record), Answer::Accepted(record.len() as u32));
     }
+    let fed_so_far = log(&records[..10]);
+    let sheet = compare_closing(&mut session.clone(), &fed_so_far).expect("a sheet");
+    assert_eq!(sheet[..4], [1, 0, 0, 4]);
+    let last = record_bytes(&records[10]);
+    assert_eq!(session.feed(&last), Answer::Accepted(last.len() as u32));
     let sheet = compare_closing(&mut session, &log(&records)).expect("a sheet");
-    assert_eq!(sheet[..4], [1, 0, 0, 5]);
+    assert_eq!(sheet[..4], [1, 0, 0, 6]);
 }

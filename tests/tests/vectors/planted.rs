@@ -74,6 +74,46 @@ fn of_excerpts_and_narrowings() {
     );
 }
 
+/// An add of 1, a remove that never returned, and one that found nothing: the open one took 1.
+fn open_remove() -> String {
+    digits(&log(&run("A1( A1) Ro( R( R-)")))
+}
+
+#[test]
+fn of_a_log_with_an_open_remove() {
+    assert_noticed(
+        &format!("judge {}", open_remove()),
+        &["wrote 01000003000000010002", "wrote 01000003000000010002 ?"],
+        &[
+            "wrote 01000003000000020001 ?",
+            "wrote 0100000200000002 ?",
+            "wrote 0106000200020000",
+            "refused 10 2",
+        ],
+    );
+    assert_noticed(
+        &format!("excerpt {}", open_remove()),
+        &["refused 32 0"],
+        &[
+            "refused 23 0",
+            "refused 10 2",
+            "refused 32 2",
+            "wrote 010000",
+        ],
+    );
+    let (legal, illegal) = ("01000003000000010002", "01000003000000020001");
+    assert_noticed(
+        &format!("replay {} {legal}", open_remove()),
+        &["yes"],
+        &["no", "refused 10 2"],
+    );
+    assert_noticed(
+        &format!("replay {} {illegal}", open_remove()),
+        &["no"],
+        &["yes"],
+    );
+}
+
 /// A line of a page, as the vectors write bytes.
 fn line(number: char, label: &str, columns: &str) -> String {
     let text = format!("   {number} {label:<11} {columns:<63}\n");

@@ -33,7 +33,7 @@ fn agrees(read: Answer, answer: &str) -> bool {
     let words: Vec<&str> = answer.split_whitespace().collect();
     match words[..] {
         // These are refusals of a log that has been read.
-        ["refused", "11" | "23" | "24" | "30", _] => matches!(read, Answer::Accepted(_)),
+        ["refused", "11" | "23" | "24" | "30" | "32", _] => matches!(read, Answer::Accepted(_)),
         ["refused", refusal, index] => read == refused(number(refusal), number(index)),
         ["log", _, "records", operations, ..] => read == Answer::Accepted(number(operations)),
         ["wrote", _] | ["yes"] | ["no"] => matches!(read, Answer::Accepted(_)),

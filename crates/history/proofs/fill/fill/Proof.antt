@@ -5,13 +5,13 @@ use Rattle.history.proofs.fill.fill.Tie as tie
 use Prim.Native.Nat.{_-_}
 use borrow.Author.Needs.{needs}
 use native.Mathlib.Omega.{arith}
-use Rattle.history.proofs.Reaching.{Reached, reached-start, reached-found, reached-beside, reached-room, reached-next, reached-end}
+use Rattle.history.proofs.Reaching.{Reached, reached-start, reached-found, reached-beside, reached-small, reached-room, reached-next, reached-end}
 
 abbrev Inv-loop : tie.InvT-loop
-Inv-loop log end table₀ callers₀ chains₀ at₀ count₀ batch₀ i₀ table callers chains at count batch i = Reached log end table₀ callers chains table at count batch i
+Inv-loop log records table₀ callers₀ chains₀ at₀ count₀ batch₀ i₀ table callers chains at count batch i = Reached log records table₀ callers chains table at count batch i
 
 abbrev μ-loop : tie.MeasureT-loop
-μ-loop log end table₀ callers₀ chains₀ at₀ count₀ batch₀ i₀ table callers chains at count batch i = end - i
+μ-loop log records table₀ callers₀ chains₀ at₀ count₀ batch₀ i₀ table callers chains at count batch i = records - i
 
 loop-holds : tie.Need-loop-holds Inv-loop μ-loop
 loop-holds c = reached-start (c .before .pre .0) _ (c .before .pre .1)
@@ -34,6 +34,9 @@ read c = c .before .before .before
 
 place-of-requires : tie.Need-place-of-requires Inv-loop μ-loop
 place-of-requires c κs = let d = read c in reached-beside (d .before .before .loop .inv) (d .before .loop-test .taken) (d .decode-at .ensures) (c .before .«record» .given .1)
+
+add-note : tie.Need-add-note Inv-loop μ-loop
+add-note c = let d = read (c .before) in omega (arith, reached-small (d .before .before .loop .inv) (d .before .loop-test .taken))
 
 note-requires : tie.Need-note-requires Inv-loop μ-loop
 note-requires c κs = let d = read (c .before .before .before .before) in reached-room (d .before .before .loop .inv) (d .before .loop-test .taken)
@@ -63,6 +66,7 @@ fill-spec =
     returns
     enum-known-record
     place-of-requires
+    add-note
     note-requires
     add-i
     loop-less

@@ -1,53 +1,62 @@
--- `decide` meets its contract.
+-- `decide` meets its contract: the verdict on the history as it stands is an order, or every remove has returned, or the fate of the one that has not
+-- is settled.
 use native.Mathlib.Omega.{arith}
+use Rattle.reader.specs.Log.{maxRecords}
 use Rattle.matching.proofs.Storing.{new-cleared}
-use Rattle.patterns.proofs.Finding.{reaches-right, single}
-use Rattle.judge.proofs.Deciding.{decided-order, decided-pattern}
 use borrow.Author.Needs.{needs}
+use Rattle.judge.proofs.Deciding.{order-stands, pattern-listed, returned-decided}
 use Rattle.judge.proofs.decide.decide.Statement.{statement}
 use Rattle.judge.proofs.decide.decide.Tie as tie
 
-match-values-requires : tie.Need-match-values-requires
-match-values-requires c κs = (c .before .pre .0 .few, c .before .pre .0 .lawful .once, new-cleared)
+-- the steps before: the history as it stands is decided, and a remove without return is looked for
+abbrev start-at : tie.After-decide-complete → tie.Start
+start-at c = c .before .before .before .before
 
-find-sign-requires : tie.Need-find-sign-requires
-find-sign-requires c κs = search needs
+abbrev pattern-at : tie.After-pending-remove → tie.Else1
+pattern-at c = c .before .before
+
+abbrev decided-at : tie.After-pending-remove → tie.After-decide-complete
+decided-at c = c .before .before .before .before
+
+decide-complete-requires : tie.Need-decide-complete-requires
+decide-complete-requires c κs = let pre = c .before .before .before .pre in (pre .0, new-cleared maxRecords, pre .3)
 
 returns : tie.Need-returns
-returns c = decided-pattern (c .before .before .find-sign .ensures .found (omega (arith, c .if1 .taken)))
+returns c = order-stands (c .before .before .decide-complete .ensures .1) (c .if1 .taken)
 
-fill-reaches-requires : tie.Need-fill-reaches-requires
-fill-reaches-requires c κs = search needs
-
-find-order-requires : tie.Need-find-order-requires
-find-order-requires c κs = let none = c .before .before .before .before .before .before .before .before .find-sign .ensures .none (omega (arith, c .before .before .before .before .before .before .if1 .left)) in let right = reaches-right (c .before .before .before .before .before .before .before .before .before .before .before .before .before .pre .0) (c .before .before .before .before .before .before .before .before .before .before .before .match-values .ensures) none (c .before .before .before .fill-reaches .ensures) in (c .before .before .before .before .before .before .before .before .before .before .before .before .before .pre .0, c .before .before .before .before .before .before .before .before .before .before .before .match-values .ensures, single (c .before .before .before .before .before .before .before .before .before .before .before .before .before .pre .0) (c .before .before .before .before .before .before .before .before .before .before .before .match-values .ensures) none right, right, c .before .before .before .before .before .before .before .before .find-sign .ensures .sized)
-
-enum-known-placed : tie.Need-enum-known-placed
-enum-known-placed c = search needs
-
-enum-told : tie.Need-enum-told
-enum-told c = search needs
-
-find-cause-requires : tie.Need-find-cause-requires
-find-cause-requires c κs = let none = c .before .before .before .before .before .before .before .before .before .before .before .before .before .before .find-sign .ensures .none (omega (arith, c .before .before .before .before .before .before .before .before .before .before .before .before .if1 .left)) in let short = rw (c .before .before .before .enum-told .given .1) at (c .before .before .before .before .before .find-order .ensures) in (c .before .before .before .before .before .before .before .before .before .before .before .before .before .before .before .before .before .before .before .pre .0, c .before .before .before .before .before .before .before .before .before .before .before .before .before .before .before .before .before .match-values .ensures, none, reaches-right (c .before .before .before .before .before .before .before .before .before .before .before .before .before .before .before .before .before .before .before .pre .0) (c .before .before .before .before .before .before .before .before .before .before .before .before .before .before .before .before .before .match-values .ensures) none (c .before .before .before .before .before .before .before .before .before .fill-reaches .ensures), short .1, short .0)
+pending-remove-requires : tie.Need-pending-remove-requires
+pending-remove-requires c κs = search needs
 
 returns-2 : tie.Need-returns-2
-returns-2 c = decided-order (rw (c .before .placed .given .1) at (c .before .before .before .find-order .ensures))
+returns-2 c =
+    let sought = c .before in
+    returned-decided (start-at (decided-at sought) .args .table .now) (pattern-listed (decided-at sought .decide-complete .ensures .1) (pattern-at sought .if1 .left)) (sought .pending-remove .ensures) (c .if2 .taken)
+
+settle-requires : tie.Need-settle-requires
+settle-requires c κs =
+    let some = c .before .before .before .before in
+    let sought = some .before in
+    let decided = decided-at sought in
+    let pre = start-at decided .pre in (
+      pre .0,
+      pre .1,
+      pre .2,
+      decided .decide-complete .ensures .0,
+      record { known = omega (arith, some .if2 .left); kinds = sought .pending-remove .ensures .holds (omega (arith, some .if2 .left)) },
+      pattern-listed (decided .decide-complete .ensures .1) (pattern-at sought .if1 .left),
+      pre .4,
+    )
 
 returns-3 : tie.Need-returns-3
-returns-3 c = decided-pattern (c .find-cause .ensures)
+returns-3 c = search needs
 
 pub decide-spec : {M : Type 1} → statement M
 decide-spec =
     tie.close
     (tie.spec
-    match-values-requires
-    find-sign-requires
+    decide-complete-requires
     returns
-    fill-reaches-requires
-    find-order-requires
-    enum-known-placed
-    enum-told
-    find-cause-requires
+    pending-remove-requires
     returns-2
+    settle-requires
     returns-3)

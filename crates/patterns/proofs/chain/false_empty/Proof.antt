@@ -13,6 +13,7 @@ use Rattle.history.specs.History.{History, emptyRemove}
 use Rattle.history.specs.Table.{tabled}
 use Rattle.violations.specs.Violations.{Is}
 use Rattle.matching.proofs.Firsts.{Unfound, first-starts, first-more}
+use Rattle.history.specs.Positions.{maxPositions}
 use Rattle.matching.proofs.Storing.{new-cleared}
 use Rattle.patterns.proofs.Chaining.{CoveredEmpty, not-covered, first-chained, none-chained}
 
@@ -26,7 +27,7 @@ fill-ranks-requires : tie.Need-fill-ranks-requires Inv-loop μ-loop
 fill-ranks-requires c κs = (c .before .pre .0, c .before .pre .1, refl)
 
 note-returns-requires : tie.Need-note-returns-requires Inv-loop μ-loop
-note-returns-requires c κs = (c .before .before .before .before .pre .0, c .before .before .fill-ranks .ensures .sized, new-cleared)
+note-returns-requires c κs = (c .before .before .before .before .pre .0, c .before .before .fill-ranks .ensures .sized, new-cleared maxPositions)
 
 fill-next-requires : tie.Need-fill-next-requires Inv-loop μ-loop
 fill-next-requires c κs = search needs

@@ -6,7 +6,7 @@ use Prim.Native.Nat.{_-_, _≤_}
 use native.Mathlib.Omega.{arith}
 use mathlib.Core.Path.{_≡_, refl}
 use mathlib.Core.Logic.{⊎-elim}
-use Rattle.reader.specs.Log.{maxRecords}
+use Rattle.history.specs.Positions.{maxPositions}
 use Rattle.history.specs.Table.{tabled}
 use Rattle.matching.specs.Reaches.{reachAt}
 use Rattle.matching.proofs.Reaching.{reach-within}
@@ -33,7 +33,7 @@ element-copy-out-rank c = search needs
 
 -- the value of add a reaches to a position or to the end
 reach-small : (c : tie.Then1 Inv-loop μ-loop)
-    → reachAt (c .before .before .before .before .args .reach .now) (c .before .before .before .loop .a) ≤ maxRecords
+    → reachAt (c .before .before .before .before .args .reach .now) (c .before .before .before .loop .a) ≤ maxPositions
 reach-small c =
     let start = c .before .before .before .before in
     let kind = rw (c .before .kind-of .ensures) at (c .if1 .taken) in

@@ -11,17 +11,17 @@ use Rattle.reader.proofs.clients.earliest_remove.Statement.{statement}
 use Rattle.reader.proofs.clients.earliest_remove.Tie as tie
 
 abbrev Inv-loop : tie.InvT-loop
-Inv-loop codes count none least₀ i₀ least i = (i ≤ count) × LeastRemove codes i none least
+Inv-loop codes count from none least₀ i₀ least i = (i ≤ count) × LeastRemove codes i from none least
 
 abbrev μ-loop : tie.MeasureT-loop
-μ-loop codes count none least₀ i₀ least i = count - i
+μ-loop codes count from none least₀ i₀ least i = count - i
 
 -- the code that is looked at is that of a record
 coded : (c : tie.After-code Inv-loop μ-loop) → let turn = c .before .before in 4 ≤ getD (turn .before .args .codes .now) (turn .loop .i) 0
 coded c = c .before .before .before .pre .1 _ (c .before .loop-test .taken)
 
 loop-holds : tie.Need-loop-holds Inv-loop μ-loop
-loop-holds c = (omega arith, least-none _ _)
+loop-holds c = (omega arith, least-none _ _ _)
 
 mul-code : tie.Need-mul-code Inv-loop μ-loop
 mul-code c = search needs
@@ -42,10 +42,12 @@ loop-again : tie.Need-loop-again Inv-loop μ-loop
 loop-again c = let so-far = c .before .before .before .loop .inv .1 in (
   omega arith,
   ⊎-elim
-      (λ w. rw (w .3, w .1 .ensures) (least-lower so-far (w .0 .taken) (coded (c .before)) (omega (arith, w .1 .ensures, w .2 .taken))))
+      (λ w. rw (w .4, w .1 .ensures) (least-lower so-far (w .0 .taken) (coded (c .before)) (omega (arith, w .1 .ensures, w .2 .taken)) (omega (arith, w .1 .ensures, w .3 .taken))))
       (⊎-elim
-      (λ w. rw (w .3) (least-same so-far (λ e. omega (arith, w .1 .ensures, w .2 .left, coded (c .before)))))
-      (λ w. rw (w .1) (least-same so-far (λ e. absurd (w .0 .left e)))))
+      (λ w. rw (w .4) (least-same so-far (λ e m. omega (arith, w .1 .ensures, w .3 .left, coded (c .before)))))
+      (⊎-elim
+      (λ w. rw (w .3) (least-same so-far (λ e m. omega (arith, w .1 .ensures, w .2 .left, coded (c .before)))))
+      (λ w. rw (w .1) (least-same so-far (λ e. absurd (w .0 .left e))))))
       (c .if1 .came),
 )
 

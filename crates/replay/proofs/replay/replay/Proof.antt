@@ -2,6 +2,7 @@
 use borrow.Author.Needs.{needs}
 use Rattle.replay.proofs.replay.replay.Statement.{statement}
 use Rattle.replay.proofs.replay.replay.Tie as tie
+use native.Mathlib.Omega.{arith}
 use mathlib.Core.Path.{sym, _∙_}
 use borrow.Author.Tests.{not-true, not-false}
 use Rattle.history.proofs.Tabulating.{log-tabled}
@@ -22,9 +23,12 @@ is-order-sheet-requires c κs = search needs
 returns : tie.Need-returns
 returns c = sheet-refused (log-tabled (c .before .before .before .before .before .before .before .before .before .args .log .now) (c .before .before .before .before .before .tabulate .ensures .0) (c .before .before .before .records .given .1) _ _ (c .before .before .before .before .before .tabulate .ensures .1)) (c .before .before .before .before .before .before .before .before .before .args .sheet .now) (sym (c .before .is-order-sheet .ensures) ∙ not-true (c .before .is-order-sheet .result) (c .if1 .taken))
 
+add-is-linearization : tie.Need-add-is-linearization
+add-is-linearization c = omega (arith, log-tabled (c .before .before .before .before .before .before .before .before .before .before .args .log .now) (c .before .before .before .before .before .before .tabulate .ensures .0) (c .before .before .before .before .records .given .1) _ _ (c .before .before .before .before .before .before .tabulate .ensures .1) .short)
+
 is-linearization-requires : tie.Need-is-linearization-requires
 is-linearization-requires c κs = let t = (log-tabled (c .before .before .before .before .before .before .before .before .before .before .args .log .now) (c .before .before .before .before .before .before .tabulate .ensures .0) (c .before .before .before .before .records .given .1) _ _ (c .before .before .before .before .before .before .tabulate .ensures .1)) in
-    (t .few, t .short, sym (c .before .before .is-order-sheet .ensures) ∙ not-false (c .before .before .is-order-sheet .result) (c .before .if1 .left))
+    (t .few, omega (arith, t .short), sym (c .before .before .is-order-sheet .ensures) ∙ not-false (c .before .before .is-order-sheet .result) (c .before .if1 .left))
 
 returns-2 : tie.Need-returns-2
 returns-2 c = order-legal (log-tabled (c .before .before .before .before .before .before .before .before .before .before .before .before .args .log .now) (c .before .before .before .before .before .before .before .before .tabulate .ensures .0) (c .before .before .before .before .before .before .records .given .1) _ _ (c .before .before .before .before .before .before .before .before .tabulate .ensures .1)) (c .before .before .before .before .before .before .before .before .before .before .before .before .args .sheet .now)
@@ -46,6 +50,7 @@ replay-spec =
     enum-known-records
     is-order-sheet-requires
     returns
+    add-is-linearization
     is-linearization-requires
     returns-2
     returns-3

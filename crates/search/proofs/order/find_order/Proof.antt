@@ -1,4 +1,5 @@
 -- `find_order` meets its contract.
+use Rattle.history.specs.Positions.{maxPositions}
 use Rattle.matching.proofs.Storing.{new-cleared}
 use Rattle.search.proofs.Ordering.{limits-right, ordered}
 use borrow.Author.Needs.{needs}
@@ -6,7 +7,7 @@ use Rattle.search.proofs.order.find_order.Statement.{statement}
 use Rattle.search.proofs.order.find_order.Tie as tie
 
 fill-gaps-requires : tie.Need-fill-gaps-requires
-fill-gaps-requires c κs = (c .before .pre .0, c .before .pre .3 .sized, new-cleared)
+fill-gaps-requires c κs = (c .before .pre .0, c .before .pre .3 .sized, new-cleared maxPositions)
 
 fill-limits-requires : tie.Need-fill-limits-requires
 fill-limits-requires c κs = search needs
