@@ -1,6 +1,7 @@
 -- The number at which a function is least: how it is searched for.
 use Prim.Native.Nat.{ℕ, _+_, _≤_, _<_}
 use native.Mathlib.Omega.{arith}
+use native.Mathlib.Decide.{decLt}
 use mathlib.Core.Path.{_≡_, refl}
 use Rattle.history.proofs.Basics.{up-to}
 use Rattle.fates.specs.Fates.{LeastAt, LeastSoFar}
@@ -31,9 +32,14 @@ module _ {f : ℕ → ℕ} {none count n r x : ℕ} (so-far : LeastSoFar f none 
 -- all are gone through
 pub least-found : {f : ℕ → ℕ} {none count r x : ℕ} → LeastSoFar f none count count r x → LeastAt f none count r
 least-found {f} {none} {count} {r} {x} all = record {
+  within = by (decLt x none);
   below = λ l. let met = all .some (under l) in omega (arith, under l);
   least = λ p l lower. let met = all .some (omega (arith, all .least p l)) in (met .0, omega (arith, met .1, all .least p l));
 }
   where
+    by : Dec (x < none) → r ≤ count
+    by (yes l) = omega (arith, all .some l .0)
+    by (no l) = omega (arith, all .nowhere (omega (arith, all .within)))
+
     under : r < count → x < none
     under l = let not-none : x ≡ none → ⊥ = λ e. omega (arith, all .nowhere e) in omega (arith, all .within)

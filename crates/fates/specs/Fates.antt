@@ -13,6 +13,7 @@ freeReturn h partner a = if eqb (h .kind a) add then (if eqb (partnerAt partner 
 
 -- r is a number below `count` at which f is least, or `count` if f is nowhere below `none` there.
 pub record LeastAt (f : ℕ → ℕ) (none count r : ℕ) : Type 0 where
+  pub within : r ≤ count
   pub below : r < count → f r < none
   pub least : (p : ℕ) → p < count → f p < none → (r < count) × (f r ≤ f p)
 

@@ -131,9 +131,8 @@ fn the_pattern_is_that_with_it_left_out() {
     assert_pattern("A1( A1) A2( A2) R( R2) Ro(", 4, &[0, 1, 2]);
     // As the remove of 1: 6 over 3 1; as that of 2: 4 over 0 1 2.
     assert_pattern("A1( A1) A2( A2) Ro( R( R-)", 6, &[3, 0]);
-    // As the remove of 1: 3 over 0 2.
-    assert_pattern("Ra( Ra9) Ro( A1( A1)", 1, &[0]);
-    assert_pattern("A1( A1) R( R-) Ro( A2( A2)", 6, &[1, 0]);
+    // As the remove of 1: 4 over 1 2 4; as that of 2: 4 over 0 1 3.
+    assert_pattern("A1( A1) A2( A2) A3( A3) Ro( R( R3)", 4, &[0, 2, 4]);
 }
 
 #[test]
