@@ -6,7 +6,7 @@ use mathlib.Core.Path.{_≡_, refl, sym, _∙_}
 use mathlib.Core.List.{List}
 use borrow.Author.Tests.{eq-eqb, ne-eqb}
 use Rattle.reader.specs.Log.{maxRecords}
-use Rattle.history.specs.History.{History, add, remove, emptyRemove, noKind, Returned, Lawful, Lone}
+use Rattle.history.specs.History.{History, add, remove, emptyRemove, noKind, Returned, Lone}
 use Rattle.history.specs.Table.{valueAt, callAt, tabled, Agree, Entered}
 use Rattle.history.proofs.Agreeing.{agree-sym}
 use Rattle.violations.specs.Violations.{Is}

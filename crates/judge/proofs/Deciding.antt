@@ -18,9 +18,9 @@ use Rattle.matching.specs.Answers.{First}
 use Rattle.matching.proofs.Firsts.{none-found}
 use Rattle.search.specs.Order.{OrderListed, Ordered}
 use Rattle.search.specs.declared.order.Ended.{Ended}
-use Rattle.search.specs.declared.order.Ended.the-variants.{Short}
+use Rattle.search.specs.declared.order.Ended.the-variants.{Whole, Short}
 use Rattle.patterns.specs.Finding.{PatternListed}
-use Rattle.judge.specs.Decision.{CompleteDecided, Decided}
+use Rattle.judge.specs.Decision.{CompleteDecided, Decided, FateTried}
 
 -- what is known where the search stops short
 pub ordered-short : (h : History) (list : List ℕ) {ended : Ended} → ended ≡ Short → Ordered h ended list → (length list ≡ maxRecords) × (NoViolation Queue h → ⊥)
@@ -64,8 +64,8 @@ module _ {h : History} {byte k : ℕ} {list : List ℕ} (decided : CompleteDecid
   pub pattern-listed : (byte ≡ orderVerdict → ⊥) → PatternListed h byte k list
   pattern-listed n = record { sized = decided .sized; within = decided .within; first = complete-pattern (decided .verdict) n }
 
--- a pattern is the verdict
-pub pattern-decided : {h : History} {byte k : ℕ} {list : List ℕ} → PatternListed h byte k list → Verdict Queue h byte (take k list) → Decided h byte k list
+-- a pattern that is the verdict is decided
+pattern-decided : {h : History} {byte k : ℕ} {list : List ℕ} → PatternListed h byte k list → Verdict Queue h byte (take k list) → Decided h byte k list
 pattern-decided pattern verdict = record { sized = pattern .sized; within = pattern .within; verdict = verdict; chosen = no-order (pattern .first) }
 
 -- so it is if every remove has returned
@@ -76,3 +76,12 @@ returned-decided table {count} {end} pattern first none =
   where
     returned : RemovesReturned (tabled count end table)
     returned p l = let kinded : kindAt table p ≡ noKind → ⊥ = none-found first (omega (arith, first .within)) p l in omega arith
+
+-- and where the fates of a remove without return are tried, an order is found or the pattern stands
+pub fate-order : {h : History} {ended : Ended} {order listed : List ℕ} {number k : ℕ} → FateTried h ended order → FirstViolation Queue h number listed → ended ≡ Whole k
+    → Decided h orderVerdict k order
+fate-order tried first e = rw e at (tried .outcome first)
+
+pub fate-pattern : {h : History} {ended : Ended} {order list : List ℕ} {byte k : ℕ} → FateTried h ended order → PatternListed h byte k list → ended ≡ Short
+    → Decided h byte k list
+fate-pattern tried pattern e = pattern-decided pattern (rw e at (tried .outcome (pattern .first)))

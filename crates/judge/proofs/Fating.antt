@@ -7,27 +7,25 @@ use Rattle.history.specs.History.{History, remove, noKind, Returned, Lawful, Lo
 use Rattle.history.specs.Sheet.{orderVerdict}
 use Rattle.history.specs.Table.{valueAt, callAt, tabled, Agree, Entered}
 use Rattle.violations.specs.Violations.{Is}
-use Rattle.violations.specs.Verdict.{JudgedLinearization}
+use Rattle.violations.specs.Verdict.{FirstViolation, JudgedLinearization, Verdict}
 use Rattle.violations.specs.Fates.{taking, Free}
 use Rattle.violations.proofs.Laws.{complete-zero, complete-pattern, complete-exactly, agree-complete-verdict, agree-found, none-helps, it-settles, it-helps, it-fails, comes-back-lawful, taking-back}
 use Rattle.matching.specs.Held.{Held}
 use Rattle.matching.specs.Matching.{Partners}
-use Rattle.patterns.specs.Finding.{PatternListed}
 use Rattle.fates.specs.Fates.{freeReturn, LeastAt}
 use Rattle.fates.proofs.Laws.{entered-taking, none-free, soonest-is-free, soonest-is-first}
 use Rattle.judge.specs.Decision.{CompleteDecided, Decided}
-use Rattle.judge.proofs.Deciding.{pattern-decided}
 
 module _ {count end : ℕ} {table partner : List ℕ} (held : Held (tabled count end table)) (lone : Lone (tabled count end table))
     (partners : Partners table count partner) {o : ℕ} (pending : Is (tabled count end table) noKind o)
-    {byte k : ℕ} {list : List ℕ} (pattern : PatternListed (tabled count end table) byte k list)
+    {number : ℕ} {listed : List ℕ} (violation : FirstViolation Queue (tabled count end table) number listed)
     {a : ℕ} (soonest : LeastAt (freeReturn (tabled count end table) partner) end count a) where
   abbrev h : History
   h = tabled count end table
 
   -- no value can have been taken
-  pub no-fate-helps : count ≤ a → Decided h byte k list
-  no-fate-helps none = pattern-decided pattern (none-helps (held .lawful) lone pending (pattern .first) (none-free held partners soonest none))
+  pub no-fate-helps : count ≤ a → Verdict Queue h number listed
+  no-fate-helps none = none-helps (held .lawful) lone pending violation (none-free held partners soonest none)
 
   module _ (some : a < count) {table' : List ℕ} (entered : Entered table o remove (valueAt table a) (callAt table o) (end - 1) table')
       {byte' k' : ℕ} {order : List ℕ} (tried : CompleteDecided (tabled count end table') byte' k' order) where
@@ -50,19 +48,17 @@ module _ {count end : ℕ} {table partner : List ℕ} (held : Held (tabled count
         record {
           sized = tried .sized;
           within = tried .within;
-          verdict = it-helps (held .lawful) lone pending (pattern .first) free first judged;
+          verdict = it-helps (held .lawful) lone pending violation free first judged;
           chosen = λ z. record {
             settled = taking h o a;
-            settles = it-settles (held .lawful) lone pending (pattern .first) free first;
+            settles = it-settles (held .lawful) lone pending violation free first;
             judged = judged;
             found = agree-found agree (tried .chosen e);
           };
         }
 
     -- or the pattern stays
-    pub fate-fails : (byte' ≡ orderVerdict → ⊥) → Decided h byte k list
+    pub fate-fails : (byte' ≡ orderVerdict → ⊥) → Verdict Queue h number listed
     fate-fails n =
-        let violation = complete-pattern (agree-complete-verdict Queue agree (tried .verdict)) n in
-        pattern-decided pattern
-        (it-fails (held .lawful) lone pending (pattern .first) free first
-        (λ success. complete-exactly fate-lawful .0 success _ _ (violation .occurs)))
+        let stays = complete-pattern (agree-complete-verdict Queue agree (tried .verdict)) n in
+        it-fails (held .lawful) lone pending violation free first (λ success. complete-exactly fate-lawful .0 success _ _ (stays .occurs))

@@ -7,8 +7,10 @@ use Rattle.reader.specs.Log.{maxRecords}
 use Rattle.history.specs.Object.{Queue}
 use Rattle.history.specs.History.{History}
 use Rattle.history.specs.Sheet.{orderVerdict}
-use Rattle.violations.specs.Verdict.{CompleteVerdict, Verdict}
+use Rattle.violations.specs.Verdict.{FirstViolation, CompleteVerdict, Verdict}
 use Rattle.violations.specs.Found.{Found, FoundSettled}
+use Rattle.search.specs.declared.order.Ended.{Ended}
+use Rattle.search.specs.declared.order.Ended.the-variants.{Whole, Short}
 use Rattle.judge.specs.declared.decide.Decision.{Decision}
 use Rattle.judge.specs.declared.decide.Decision.the-variants.{LeftOut, Taking}
 
@@ -26,6 +28,15 @@ pub record Decided (h : History) (byte k : ℕ) (list : List ℕ) : Type 0 where
   pub within : k ≤ maxRecords
   pub verdict : Verdict Queue h byte (take k list)
   pub chosen : byte ≡ orderVerdict → FoundSettled h (take k list)
+
+-- Where a pattern occurs with the remove left out, its fates are tried: an order is found, and its operations are the first k numbers of the list; or the
+-- pattern stands.
+abbrev pub Outcome : History → ℕ → List ℕ → Ended → List ℕ → Type 0
+Outcome h number listed (Whole k) order = Decided h orderVerdict k order
+Outcome h number listed Short order = Verdict Queue h number listed
+
+pub record FateTried (h : History) (ended : Ended) (order : List ℕ) : Type 0 where
+  pub outcome : {number : ℕ} {listed : List ℕ} → FirstViolation Queue h number listed → Outcome h number listed ended order
 
 -- It is decided, and the operations stand in the list that the decision names.
 abbrev pub DecidedBy : History → Decision → List ℕ → List ℕ → Type 0

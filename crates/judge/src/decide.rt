@@ -9,8 +9,7 @@ ghost use Rattle.history.specs.Table.{tableLength, tabled};
 ghost use Rattle.violations.specs.Violations.{Is};
 ghost use Rattle.matching.specs.Held.{Held};
 ghost use Rattle.matching.specs.Matching.{Cleared, Partners};
-ghost use Rattle.patterns.specs.Finding.{PatternListed};
-ghost use Rattle.judge.specs.Decision.{CompleteDecided, DecidedBy};
+ghost use Rattle.judge.specs.Decision.{CompleteDecided, FateTried, DecidedBy};
 use fates::fates::pending_remove;
 use fates::fates::soonest_free;
 use fates::fates::take;
@@ -54,39 +53,37 @@ pub fn decide_complete(
     }
 }
 
-// What is decided: the verdict with a remove without return left out, whose operations stand in the list; or an order of so many operations in
-// which that remove takes a value, and they stand in the order.
-pub enum Decision {
-    LeftOut(Finding),
-    Taking(usize),
-}
-
-// Decides where remove o has not returned and this pattern was found with it left out. The table then holds the history with the fate that was
-// tried.
-fn settle(
+// Tries the one fate of remove o, which has not returned, that can succeed where leaving it out gives a pattern. The table then holds the history
+// with this fate.
+fn try_fate(
     table: &mut Operations,
     count: usize,
     end: usize,
     partner: &mut Numbers,
     o: usize,
-    found: Finding,
-    list: &Numbers,
     order: &mut Numbers,
-) -> Decision
-    requires { ⌜ Held (tabled count end (now table)) × Lone (tabled count end (now table)) × (length (now table) ≡ tableLength) × Partners (now table) count (now partner) × Is (tabled count end (now table)) noKind o × PatternListed (tabled count end (now table)) (found .verdict) (found .listed) (now list) × (length (now order) ≡ maxRecords) ⌝ }
-    ensures { λ d. ⌜ DecidedBy (tabled count end (now (table .entry))) d (now (list .entry)) (now (order .exit)) ⌝ }
+) -> Ended
+    requires { ⌜ Held (tabled count end (now table)) × Lone (tabled count end (now table)) × (length (now table) ≡ tableLength) × Partners (now table) count (now partner) × Is (tabled count end (now table)) noKind o × (length (now order) ≡ maxRecords) ⌝ }
+    ensures { λ e. ⌜ FateTried (tabled count end (now (table .entry))) e (now (order .exit)) ⌝ }
 {
     let a = soonest_free(table, count, end, partner);
     if count <= a {
-        return Decision::LeftOut(found);
+        return Ended::Short;
     }
     take(table, end, o, a);
     *partner = [0u32; MAX_RECORDS];
     let tried = decide_complete(table, count, end, partner, order);
     if tried.verdict != ORDER {
-        return Decision::LeftOut(found);
+        return Ended::Short;
     }
-    Decision::Taking(tried.listed)
+    Ended::Whole(tried.listed)
+}
+
+// What is decided: the verdict with a remove without return left out, whose operations stand in the list; or an order of so many operations in
+// which that remove takes a value, and they stand in the order.
+pub enum Decision {
+    LeftOut(Finding),
+    Taking(usize),
 }
 
 // Decides the history in the table, which is then used up.
@@ -109,5 +106,8 @@ pub fn decide(
     if count <= o {
         return Decision::LeftOut(found);
     }
-    settle(table, count, end, &mut partner, o, found, list, order)
+    match try_fate(table, count, end, &mut partner, o, order) {
+        Ended::Whole(placed) => Decision::Taking(placed),
+        Ended::Short => Decision::LeftOut(found),
+    }
 }

@@ -10,7 +10,7 @@ use Rattle.history.specs.Each.{Each}
 use Rattle.history.specs.Object.{Object}
 use Rattle.history.specs.History.{History}
 use Rattle.violations.specs.Fates.{Settled, left-out, took}
-use Rattle.violations.specs.Verdict.{Verdict, CompleteVerdict}
+use Rattle.violations.specs.Verdict.{Verdict}
 use Rattle.violations.proofs.Occurrences.{highestNumber, occurs-numbered, occurs-known}
 
 each-below : {n : ℕ} → 0 < n → (xs : List ℕ) → Each (λ o. o < n) xs → (i : ℕ) → getD xs i 0 < n
@@ -44,7 +44,3 @@ verdict-known few (Verdict.violation {listed = o ∷ listed} x none) i =
 pub verdict-small : {object : Object} {h : History} {byte : ℕ} {listed : List ℕ} → Verdict object h byte listed → byte ≤ highestNumber object
 verdict-small (Verdict.linearization s x) = omega arith
 verdict-small (Verdict.violation x none) = occurs-numbered (x .occurs) .1
-
-pub complete-small : {object : Object} {h : History} {byte : ℕ} {listed : List ℕ} → CompleteVerdict object h byte listed → byte ≤ highestNumber object
-complete-small (CompleteVerdict.linearization x) = omega arith
-complete-small (CompleteVerdict.violation x) = occurs-numbered (x .occurs) .1

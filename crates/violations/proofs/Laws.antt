@@ -4,7 +4,7 @@
 use Prim.Native.Nat.{ℕ}
 use native.Mathlib.Decide.{ℕ-discrete}
 use mathlib.Core.Path.{_≡_, sym, _∙_}
-use mathlib.Core.Logic.{_⊎_, inl, inr, _↔_}
+use mathlib.Core.Logic.{_↔_}
 use mathlib.Core.List.{List}
 use Rattle.history.specs.Each.{Each}
 use Rattle.history.specs.Object.{Object, Queue, Cell}
@@ -12,7 +12,7 @@ use Rattle.history.specs.History.{History, Lawful, Lone}
 use Rattle.history.specs.Linearization.{Linearization}
 use Rattle.history.specs.Sheet.{orderVerdict}
 use Rattle.violations.specs.Violations.{NoViolation}
-use Rattle.violations.specs.Verdict.{FirstViolation, SomeViolation, JudgedLinearization, CompleteVerdict, Verdict}
+use Rattle.violations.specs.Verdict.{FirstViolation, Verdict}
 use Rattle.violations.specs.Parts.{Part, Kept}
 use Rattle.violations.specs.Fates.{Unfated}
 use Rattle.violations.specs.Found.{FoundSettled}
@@ -38,7 +38,7 @@ pub use Rattle.violations.proofs.CompleteVerdicts.{judged-excluded, jud
 -- A verdict lists at most 682 operations, if there are at most 1,024 records. Their numbers are below 1,024, and the verdict byte
 -- is at most the highest number of a pattern.
 pub use Rattle.violations.proofs.Lengths.{ReturnsApart, Positions, complete-at-most, listed-at-most}
-pub use Rattle.violations.proofs.Bounds.{verdict-known, verdict-small, complete-small}
+pub use Rattle.violations.proofs.Bounds.{verdict-known, verdict-small}
 -- The search for an order of a queue's history: it starts, may place whatever is placeable, goes on while something is left, and
 -- ends with a legal order that lists an open add exactly if its value was removed; and which tables serve it.
 pub use Rattle.violations.proofs.Placing.{search-starts, search-places, search-ends}
@@ -74,7 +74,7 @@ pub use Rattle.violations.proofs.Candidate.{fate-mends, fate-one, other
 pub use Rattle.violations.proofs.Verdicts.{verdict, verdict-one, settled-one, settled-lawful, settled-lowest, settled-lowest-one}
 pub use Rattle.violations.proofs.Verdicts.{verdict-legal, verdict-pending, verdict-exactly, pattern-of, alike-verdict}
 -- If no remove of a queue is pending, a verdict is one on the history as it stands; of a cell every verdict is.
-pub use Rattle.violations.proofs.Verdicts.{returned-lone, complete-is-verdict, verdict-is-complete}
+pub use Rattle.violations.proofs.Verdicts.{complete-is-verdict, verdict-is-complete}
 pub use Rattle.violations.proofs.CompleteVerdicts.{complete-zero, complete-pattern}
 
 -- A legal order of a cell exists exactly if no pattern occurs. Of its reads any number may be pending: nothing is asked of them.

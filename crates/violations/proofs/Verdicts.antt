@@ -9,7 +9,7 @@ use mathlib.Core.List.{List}
 use Rattle.reader.specs.Search.{None}
 use Rattle.reader.proofs.Search.{Lowest, lowest}
 use Rattle.history.specs.Object.{Object, Queue, Cell}
-use Rattle.history.specs.History.{History, add, noKind, Returned, RemovesReturned, Lawful, Lone, LoneIn}
+use Rattle.history.specs.History.{History, add, noKind, Returned, Lawful, Lone, LoneIn}
 use Rattle.history.specs.Linearization.{Listed, Linearization}
 use Rattle.history.specs.Sheet.{orderVerdict}
 use Rattle.history.proofs.Deciding.{equivalent?}
@@ -216,10 +216,6 @@ alike-verdict object lawful lawful' lone lone' a (Verdict.violation x none) (Ver
     absurd (alike-excludes object lawful' lawful lone' lone (alike-sym a) t y x none)
 alike-verdict object lawful lawful' lone lone' a (Verdict.violation x none) (Verdict.violation y none') =
     alike-complete-verdict lawful lawful' a (CompleteVerdict.violation x) (CompleteVerdict.violation y)
-
--- Where no remove is pending, at most one is.
-pub returned-lone : {h : History} → RemovesReturned h → Lone h
-returned-lone returned = record { one = λ o p l m e f. absurd (omega (arith, returned o l)); spare = λ o p l m e. absurd (omega (arith, returned o l)) }
 
 -- Where nothing has a fate, a verdict is one on the history as it stands.
 pub complete-is-verdict : (object : Object) {h : History} → Unfated object h → {byte : ℕ} {listed : List ℕ} → CompleteVerdict object h byte listed

@@ -1,10 +1,10 @@
 -- `decide` meets its contract: the verdict on the history as it stands is an order, or every remove has returned, or the fate of the one that has not
--- is settled.
+-- is tried.
 use native.Mathlib.Omega.{arith}
 use Rattle.reader.specs.Log.{maxRecords}
 use Rattle.matching.proofs.Storing.{new-cleared}
 use borrow.Author.Needs.{needs}
-use Rattle.judge.proofs.Deciding.{order-stands, pattern-listed, returned-decided}
+use Rattle.judge.proofs.Deciding.{order-stands, pattern-listed, returned-decided, fate-order, fate-pattern}
 use Rattle.judge.proofs.decide.decide.Statement.{statement}
 use Rattle.judge.proofs.decide.decide.Tie as tie
 
@@ -17,6 +17,9 @@ pattern-at c = c .before .before
 
 abbrev decided-at : tie.After-pending-remove → tie.After-decide-complete
 decided-at c = c .before .before .before .before
+
+abbrev sought-at : tie.After-try-fate → tie.After-pending-remove
+sought-at c = c .before .before .before .before .before
 
 decide-complete-requires : tie.Need-decide-complete-requires
 decide-complete-requires c κs = let pre = c .before .before .before .pre in (pre .0, new-cleared maxRecords, pre .3)
@@ -32,9 +35,9 @@ returns-2 c =
     let sought = c .before in
     returned-decided (start-at (decided-at sought) .args .table .now) (pattern-listed (decided-at sought .decide-complete .ensures .1) (pattern-at sought .if1 .left)) (sought .pending-remove .ensures) (c .if2 .taken)
 
-settle-requires : tie.Need-settle-requires
-settle-requires c κs =
-    let some = c .before .before .before .before in
+try-fate-requires : tie.Need-try-fate-requires
+try-fate-requires c κs =
+    let some = c .before .before .before in
     let sought = some .before in
     let decided = decided-at sought in
     let pre = start-at decided .pre in (
@@ -43,12 +46,26 @@ settle-requires c κs =
       pre .2,
       decided .decide-complete .ensures .0,
       record { known = omega (arith, some .if2 .left); kinds = sought .pending-remove .ensures .holds (omega (arith, some .if2 .left)) },
-      pattern-listed (decided .decide-complete .ensures .1) (pattern-at sought .if1 .left),
       pre .4,
     )
 
+enum-known-placed : tie.Need-enum-known-placed
+enum-known-placed c = search needs
+
+enum-told : tie.Need-enum-told
+enum-told c = search needs
+
 returns-3 : tie.Need-returns-3
-returns-3 c = search needs
+returns-3 c =
+    let tried = c .before .before .before in
+    let sought = sought-at tried in
+    fate-order (tried .try-fate .ensures) (pattern-listed (decided-at sought .decide-complete .ensures .1) (pattern-at sought .if1 .left) .first) (c .before .placed .given .1)
+
+returns-4 : tie.Need-returns-4
+returns-4 c =
+    let tried = c .before .before in
+    let sought = sought-at tried in
+    fate-pattern (tried .try-fate .ensures) (pattern-listed (decided-at sought .decide-complete .ensures .1) (pattern-at sought .if1 .left)) (c .enum-told .given .1)
 
 pub decide-spec : {M : Type 1} → statement M
 decide-spec =
@@ -58,5 +75,8 @@ decide-spec =
     returns
     pending-remove-requires
     returns-2
-    settle-requires
-    returns-3)
+    try-fate-requires
+    enum-known-placed
+    enum-told
+    returns-3
+    returns-4)

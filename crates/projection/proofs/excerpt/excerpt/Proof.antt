@@ -1,6 +1,5 @@
 -- `excerpt` meets its contract: a refusal of the log is passed on, a readable log's operations are in the table, and a remove without return is found
 -- there.
-use native.Mathlib.Omega.{arith}
 use borrow.Author.Needs.{needs}
 use Rattle.history.proofs.Tabulating.{table-of}
 use Rattle.projection.proofs.Answering.{count-small}

@@ -1,12 +1,12 @@
--- `settle` meets its contract: no value can have been taken, or the fate that is tried succeeds, or the pattern stays.
+-- `try_fate` meets its contract: no value can have been taken, or the fate that is tried succeeds, or the pattern stays.
 use native.Mathlib.Omega.{arith}
 use Rattle.reader.specs.Log.{maxRecords}
 use Rattle.matching.proofs.Storing.{new-cleared}
 use Rattle.fates.proofs.Laws.{fate-held}
 use borrow.Author.Needs.{needs}
 use Rattle.judge.proofs.Fating.{no-fate-helps, fate-helps, fate-fails}
-use Rattle.judge.proofs.decide.settle.Statement.{statement}
-use Rattle.judge.proofs.decide.settle.Tie as tie
+use Rattle.judge.proofs.decide.try_fate.Statement.{statement}
+use Rattle.judge.proofs.decide.try_fate.Tie as tie
 
 -- the steps before: the add that returns first is found, its value is taken, and the history with that fate is decided
 abbrev start-at : tie.After-soonest-free → tie.Start
@@ -27,7 +27,7 @@ soonest-free-requires c κs = search needs
 returns : tie.Need-returns
 returns c =
     let pre = start-at (c .before) .pre in
-    no-fate-helps (pre .0) (pre .1) (pre .3) (pre .4) (pre .5) (c .before .soonest-free .ensures) (c .if1 .taken)
+    record { outcome = λ violation. no-fate-helps (pre .0) (pre .1) (pre .3) (pre .4) violation (c .before .soonest-free .ensures) (c .if1 .taken) }
 
 take-requires : tie.Need-take-requires
 take-requires c κs =
@@ -52,8 +52,10 @@ returns-2 c =
     let taken = taken-at (decided .before) in
     let found = found-at (some-at taken) in
     let pre = start-at found .pre in
-    fate-fails (pre .0) (pre .1) (pre .3) (pre .4) (pre .5) (found .soonest-free .ensures) (omega (arith, some-at taken .if1 .left)) (taken .take .ensures)
-    (decided .decide-complete .ensures .1) (c .if2 .taken)
+    record {
+      outcome = λ violation. fate-fails (pre .0) (pre .1) (pre .3) (pre .4) violation (found .soonest-free .ensures) (omega (arith, some-at taken .if1 .left))
+          (taken .take .ensures) (decided .decide-complete .ensures .1) (c .if2 .taken);
+    }
 
 returns-3 : tie.Need-returns-3
 returns-3 c =
@@ -61,11 +63,13 @@ returns-3 c =
     let taken = taken-at (decided .before) in
     let found = found-at (some-at taken) in
     let pre = start-at found .pre in
-    fate-helps (pre .0) (pre .1) (pre .3) (pre .4) (pre .5) (found .soonest-free .ensures) (omega (arith, some-at taken .if1 .left)) (taken .take .ensures)
-    (decided .decide-complete .ensures .1) (omega (arith, c .if2 .left))
+    record {
+      outcome = λ violation. fate-helps (pre .0) (pre .1) (pre .3) (pre .4) violation (found .soonest-free .ensures) (omega (arith, some-at taken .if1 .left))
+          (taken .take .ensures) (decided .decide-complete .ensures .1) (omega (arith, c .if2 .left));
+    }
 
-pub settle-spec : {M : Type 1} → statement M
-settle-spec =
+pub try-fate-spec : {M : Type 1} → statement M
+try-fate-spec =
     tie.close
     (tie.spec
     soonest-free-requires
