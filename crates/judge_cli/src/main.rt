@@ -1,5 +1,7 @@
 // The program: reads a log from standard input, judges it and prints its report. What the report is, is proved of the function `report`; what is
 // read and written is left to the library io.
+#![tactic(auto)]
+
 mod report;
 
 use report::{REPORT, report};

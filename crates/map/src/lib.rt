@@ -1,3 +1,5 @@
 // A map from keys to the entries that hold them.
+#![tactic(auto)]
+
 pub mod map;
 pub mod narrow;

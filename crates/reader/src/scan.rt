@@ -21,7 +21,7 @@ use table::table::Table;
 
 // How far a scan has come: the offset of the next record, the last tick, how many records come before those of that tick, how many clients were met,
 // how many values were added and how many operations were called.
-#[derive(Drop)]
+#[derive(Clone, Copy)]
 pub struct Progress {
     pub at: usize,
     pub tick: u32,

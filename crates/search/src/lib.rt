@@ -1,4 +1,6 @@
 // The search for a legal order of the operations in a table.
+#![tactic(auto)]
+
 mod bounds;
 mod gaps;
 pub mod order;

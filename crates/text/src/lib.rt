@@ -1,2 +1,4 @@
 // Lines of text and decimal numbers, written into a lent buffer.
+#![tactic(auto)]
+
 pub mod text;

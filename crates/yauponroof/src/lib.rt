@@ -1,6 +1,8 @@
 // The C interface, include/yauponroof.h: thin exports on byte slices and numbers. Every call answers one number, whose high
 // 32 bits are 0 if the call was accepted, else the refusal's number, and whose low 32 bits are what the call returns, or the
 // refusal's record index. The crate answers makes that number and says, in its specs/, which one each outcome is.
+#![tactic(auto)]
+
 ghost use Rattle.std.specs.Prelude.{◌≡◌};
 ghost use Rattle.buffer.specs.Output.{output_answer};
 ghost use Rattle.reader.specs.Log.{read_log, checked};

@@ -1,0 +1,12 @@
+-- `min` meets its contract.
+use native.Mathlib.Omega.{arith}
+use mathlib.Core.Path.{refl}
+use mathlib.Core.Logic.{inl, inr}
+use Rattle.table.proofs.number.min.Goals as goal
+
+-- `min` meets its contract.
+pub returns-then-a-b : goal.returns-then-a-b
+returns-then-a-b c = (omega arith, omega arith, inl refl)
+
+pub returns-else-a-b : goal.returns-else-a-b
+returns-else-a-b c = (omega arith, omega arith, inr refl)
