@@ -18,7 +18,7 @@ use reader::format::MAX_RECORDS;
 use table::number::max;
 
 // How far an order has been run: the latest call among the operations placed, and where the queue's front and back are.
-#[derive(Drop)]
+#[derive(Clone, Copy)]
 pub struct Progress {
     pub latest: u32,
     pub head: usize,

@@ -25,7 +25,7 @@ use table::table::{Table, push, remove};
 
 // How far the search has come: the operations below `next` have been enabled, and so many of them wait to be placed; the queue lies from
 // `head` up to `tail`; so many operations are placed.
-#[derive(Drop)]
+#[derive(Clone, Copy)]
 pub struct Stand {
     pub next: usize,
     pub waiting: usize,
