@@ -67,8 +67,8 @@ module _ {keys : List ℕ} {count x r : ℕ} (long : count ≤ length keys) (lat
   below p l e = let h : p < count = omega (arith, in_use) in latest.last p h (sym (get_or-take count keys p 0 h) ∙ e)
 
   -- `find` finds an entry exactly if x is among the keys
-  pub latest-isIn : ltb r count ≡ is_in x (take count keys)
-  latest-isIn = by (dec_lt r count)
+  pub latest_is_in : ltb r count ≡ is_in x (take count keys)
+  latest_is_in = by (dec_lt r count)
     where
       by : Dec (r < count) → ltb r count ≡ is_in x (take count keys)
       by (yes l) = lt-ltb r count l ∙ sym (is_in_at x (take count keys) r (omega (arith, in_use)) (at r l (latest.holds l)))

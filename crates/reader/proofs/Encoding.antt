@@ -20,9 +20,12 @@ unfolding scan encode_all
 scan_encodes before {past} none = rw (append-nil before, append-nil (reverse past), le-ltb (length before) (length before) (omega arith)) refl
 scan_encodes before {past} (more {records = records} {r = r} small ok rest) =
     let after : List ℕ = encode_all records in
-    let found : decode_at (before ++ encode r ++ after) (length before) ≡ Found r (length before + size_of r) = written_record before after r small in
+    let whole : List ℕ = before ++ encode_all (r ∷ records) in
+    let glued : (before ++ encode r) ++ after ≡ whole = append_assoc before (encode r) after in
+    let found : decode_at whole (length before) ≡ Found r (length before + size_of r) = rw glued at (written_record before after r small) in
     let next : length before + size_of r ≡ length (before ++ encode r) = rw (length-append before (encode r), encode_length r) refl in
-    rw (← (append_assoc before (encode r) after), found, eq-eqb (fault past r) 0 ok, next, scan_encodes (before ++ encode r) rest, reverse-cons r past, append_assoc (reverse past) (r ∷ []) records) refl
+    let behind : scan whole (length records) (length (before ++ encode r)) (r ∷ past) ≡ readable (reverse (r ∷ past) ++ records) = rw glued at (scan_encodes (before ++ encode r) rest) in
+    rw (found, eq-eqb (fault past r) 0 ok, next, behind, reverse-cons r past, append_assoc (reverse past) (r ∷ []) records) refl
 
 -- a log of records that can be written is read as those records
 pub log_encodes : (records : List Record) → length records ≤ max_records → Writable [] records → read_partial (encode_log records) ≡ readable records

@@ -20,7 +20,7 @@ pub const REMOVE_CALL: u16 = 2;
 
 // What is known of the client of a record: its entry, or where a new one goes; its code, 0 if it has not been met; and how many records come before
 // those of the record's tick.
-#[derive(Drop)]
+#[derive(Clone, Copy)]
 pub struct Standing {
     pub entry: usize,
     pub code: u16,

@@ -111,14 +111,14 @@ unfolding Dec.and some? lawful? lone? candidate? violated? judged_linearization?
 computed? h (leaves_out (linearization listed)) = judged_linearization? Queue h listed
 computed? h (leaves_out (violation number listed)) =
     Dec.and (Dec.and (lawful? h) (lone? h)) (Dec.and (first_violation? Queue h number listed)
-    (some? Fails (λ o. some? (Fails-with o) (λ a. Dec.and (candidate? h o a) (violated? Queue (taking h o a))) h.count (λ a f. f.0.free.adds.known)) h.count
+    (some? Fails (λ o. some? (FailsWith o) (λ a. Dec.and (candidate? h o a) (violated? Queue (taking h o a))) h.count (λ a f. f.0.free.adds.known)) h.count
     (λ o f. f.1.0.pending.known)))
   where
-    Fails-with : ℕ → ℕ → Type 0
-    Fails-with o a = Candidate h o a × SomeViolation Queue (taking h o a)
+    FailsWith : ℕ → ℕ → Type 0
+    FailsWith o a = Candidate h o a × SomeViolation Queue (taking h o a)
 
     Fails : ℕ → Type 0
-    Fails o = (a : ℕ) × Fails-with o a
+    Fails o = (a : ℕ) × FailsWith o a
 computed? h (lets_take o a listed) =
     Dec.and (Dec.and (lawful? h) (lone? h)) (Dec.and (candidate? h o a) (Dec.and (violated? Queue h) (judged_linearization? Queue (taking h o a) listed)))
 

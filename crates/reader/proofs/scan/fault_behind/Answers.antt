@@ -1,0 +1,18 @@
+-- `fault_behind` meets its contract: at each return the tests that led there say which case of `fault_behind` holds.
+use mathlib.Core.Path.{sym, ◌∙◌}
+use native.Mathlib.Omega.{arith}
+use Rattle.reader.proofs.Scanning.{behind_other, behind_malformed, behind_fault}
+use Rattle.reader.proofs.scan.fault_behind.Goals as goal
+
+-- `fault_behind` meets its contract: at each return the tests that led there say which case of `fault_behind` holds.
+pub returns-then-bytes-eq0 : goal.returns-then-bytes-eq0
+returns-then-bytes-eq0 c = behind_other (λ e. omega (arith, c.if-bytes-eq0.true))
+
+pub returns-then-bytes : goal.returns-then-bytes
+returns-then-bytes c = behind_other (λ e. c.if-bytes.true (omega (arith, c.if-bytes-eq0.false)))
+
+pub returns-in-Malformed : goal.returns-in-Malformed
+returns-in-Malformed c = behind_malformed (omega (arith, c.if-bytes.false, c.if-bytes-eq0.false)) (sym c.decode_at.ensures ∙ c.in-Malformed.is)
+
+pub returns-in-Found : goal.returns-in-Found
+returns-in-Found c = behind_fault (omega (arith, c.if-bytes.false, c.if-bytes-eq0.false)) (sym c.decode_at.ensures ∙ c.in-Found.is) c.standing_of-s.ensures c.fault.ensures
