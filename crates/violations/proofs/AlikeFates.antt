@@ -5,7 +5,7 @@ use native.Mathlib.Decide.{ℕ_discrete}
 use mathlib.Core.Path.{◌≡◌, refl, sym, ap, ◌∙◌}
 use mathlib.Core.Logic.{◌↔◌}
 use borrow.Author.Tests.{eq-eqb}
-use Rattle.history.specs.History.{History, add, remove, no_kind, Returned, Precedes, Lone}
+use Rattle.history.specs.History.{History, add, no_kind, Returned, Precedes, Lone}
 use Rattle.violations.specs.Violations.{Is}
 use Rattle.violations.specs.Parts.{HasValue, Alike}
 use Rattle.violations.specs.Fates.{taking, Free}

@@ -1,7 +1,7 @@
 -- Patterns 7 to 10 on operations of two histories that correspond.
 use Prim.Native.Nat.{ℕ}
 use mathlib.Core.Path.{◌≡◌, refl, sym, ◌∙◌}
-use mathlib.Core.Logic.{◌⊎◌, inl, inr, ◌↔◌}
+use mathlib.Core.Logic.{◌⊎◌, inl, inr}
 use Rattle.history.specs.History.{History, write, read}
 use Rattle.violations.specs.Cells.{On, Written, Unwritten, Premature, Crossed, Stale}
 use Rattle.violations.specs.Parts.{HasValue}

@@ -1,6 +1,6 @@
 -- The search for an order of a cell's history, step by step: it starts, it may place any operation that is placeable, and where
 -- nothing is left it has listed a legal order.
-use Prim.Native.Nat.{ℕ, ◌≤◌, ◌<◌}
+use Prim.Native.Nat.{ℕ, ◌<◌}
 use native.Mathlib.Omega.{arith}
 use native.Mathlib.Decide.{ℕ_discrete, dec_lt}
 use mathlib.Core.Path.{◌≡◌, refl, sym, ap, ◌∙◌}

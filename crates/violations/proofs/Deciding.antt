@@ -1,5 +1,5 @@
 -- Whether one of the patterns 1 to 5 occurs with a list of operations, in a form that computes.
-use Prim.Native.Nat.{ℕ, ◌<◌}
+use Prim.Native.Nat.{ℕ}
 use native.Mathlib.Decide.{ℕ_discrete, dec_lt}
 use mathlib.Core.Path.{◌≡◌, refl}
 use mathlib.Core.Logic.Dec
