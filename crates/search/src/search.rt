@@ -35,7 +35,7 @@ pub struct Stand {
 }
 
 // Which operations wait, as the next ones are let in: the first that was not yet enabled, how many wait, and their least return.
-#[derive(Drop)]
+#[derive(Clone, Copy)]
 pub struct Admission {
     pub next: usize,
     pub waiting: usize,
@@ -196,7 +196,7 @@ fn first_fit(
     cap: u32,
 ) -> usize
     requires { Held (tabled count end table.now) × QueueRoom (tabled count end table.now) s queue.now × Room (tabled count end table.now) s.next s.waiting waiting.now }
-    ensures* { λ i. ⌜ First (λ i. Fit (tabled count end table.now) reach.now queue.now s cap (get_or waiting.now i 0)) s.waiting i ⌝ }
+    ensures { First (λ i. Fit (tabled count end table.now) reach.now queue.now s cap (get_or waiting.now i 0)) s.waiting result }
 {
     let n = s.waiting;
     let mut i = 0;
