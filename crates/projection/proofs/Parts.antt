@@ -2,7 +2,7 @@
 -- with an operation all operations on its value.
 use Prim.Native.Nat.{ℕ, ◌<◌}
 use native.Mathlib.Omega.{arith}
-use mathlib.Core.Path.{◌≡◌, sym, ◌∙◌}
+use mathlib.Core.Path.{◌≡◌}
 use mathlib.Core.Bool.{Bool, true}
 use mathlib.Core.Logic.Iff
 use mathlib.Core.Logic.{◌↔◌}
