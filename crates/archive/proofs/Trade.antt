@@ -1,6 +1,6 @@
 -- Records of which two neighbours trade places that may. They are of different clients, so the records of each client stay in their order, and returns
 -- compare with calls by their ticks as before. So orderly records stay orderly.
-use Prim.Native.Nat.{ℕ, zero, suc, ◌+◌, ◌≤◌, ◌<◌}
+use Prim.Native.Nat.{ℕ, zero, suc, ◌+◌, ◌<◌}
 use native.Mathlib.Omega.{arith}
 use native.Mathlib.Decide.{dec_lt}
 use mathlib.Core.Path.{◌≡◌, refl, sym, ap, ◌∙◌}

@@ -1,6 +1,6 @@
 -- Demand 3's trade: two neighbouring records trade places. Document 01, "Sheet, excerpt, narrowing": "the two records change places whole but for
 -- their ticks, no other byte changes". Which may is said in document 02, change 3.
-use Rattle.std.specs.Prelude.{ℕ, zero, suc, ◌+◌, ◌≤◌, ◌<◌, ◌≡◌, List, [], ◌∷◌, length}
+use Rattle.std.specs.Prelude.{ℕ, zero, suc, ◌+◌, ◌<◌, ◌≡◌, List, [], ◌∷◌, length}
 use Rattle.record.specs.declared.record.Record.{Record}
 use Rattle.reader.specs.Log.{readable, read_log, is_call, encode_log}
 use Rattle.reader.specs.Readable.{record_of}

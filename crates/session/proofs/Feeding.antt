@@ -131,7 +131,7 @@ records_taken {s} {done} {behind} h (r ∷ records) w few room =
     let (small, ok) = first_fits done records w in
     let (accepted, held) = fitting_taken h r small (rw (append-nil (reverse done)) at ok) (omega (arith, length-append done (r ∷ records))) (omega arith) in
     let joins : (done ++ (r ∷ [])) ++ records ≡ done ++ (r ∷ records) = append_assoc done (r ∷ []) records in
-    let (answers, holding) = records_taken held records (subst (Writable []) (sym joins) w) (omega (arith, ap length joins)) (omega (arith, length-drop (size_of r) behind)) in
+    let (answers, holding) = records_taken {s = after_feed s (encode r)} {done = done ++ (r ∷ [])} {behind = drop (size_of r) behind} held records (subst (Writable []) (sym joins) w) (omega (arith, ap length joins)) (omega (arith, length-drop (size_of r) behind)) in
     (ap (λ a. a ∷ answers_to (after_feed s (encode r)) (map encode records)) accepted ∙ ap (λ others. Written (size_of r) ∷ others) answers, rw (joins, drop-drop (sizes records) (size_of r) behind) at holding)
 
 -- the feeds that are accepted are those whose answers say so
@@ -143,7 +143,7 @@ all_accepted {buffer} {accepted} {s} since (r ∷ records) bytes e =
     let first : answer_to s (encode r) ≡ Written (size_of r) = cc in
     let others : answers_to (after_feed s (encode r)) (map encode records) ≡ map (λ r. Written (size_of r)) records = cc in
     let one : Since buffer (accepted ++ (encode r ∷ [])) (after_feed s (encode r)) = subst (λ a. Since buffer (accepted ++ if_accepted a (encode r)) (after_feed s (encode r))) first (then_fed since (encode r) (bytes r)) in
-    subst (λ l. Since buffer l (after_feeds (after_feed s (encode r)) (map encode records))) (append_assoc accepted (encode r ∷ []) (map encode records)) (all_accepted one records bytes others)
+    subst (λ l. Since buffer l (after_feeds (after_feed s (encode r)) (map encode records))) (append_assoc accepted (encode r ∷ []) (map encode records)) (all_accepted {accepted = accepted ++ (encode r ∷ [])} {s = after_feed s (encode r)} one records bytes others)
 
 -- the bytes of records, one behind the other, are those of the log
 joined_records : (records : List Record) → joined (map encode records) ≡ encode_all records
