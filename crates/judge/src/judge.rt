@@ -13,7 +13,7 @@ use reader::log::Checked;
 
 // An order, with its length; a pattern, with its number and how many operations it lists; or a refusal: of the log, of the sheet
 // under 24 or, where a session is judged, by how it stands. The operations stand on the sheet.
-#[derive(Drop)]
+#[derive(Clone, Copy)]
 pub enum Verdict {
     Order(usize),
     Pattern { number: u32, listed: usize },

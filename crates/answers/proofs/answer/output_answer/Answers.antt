@@ -1,0 +1,11 @@
+-- `output_answer` meets its contract.
+use native.Mathlib.Omega.{arith}
+use mathlib.Core.Path.{sym, ap, ◌∙◌}
+use Rattle.buffer.specs.Output.{output_answer}
+use Rattle.answers.proofs.answer.output_answer.Goals as goal
+
+pub refuse-requires : goal.refuse-requires
+refuse-requires c = let small = rw c.in-Refused.is at c.requires in omega (arith, small.1)
+
+pub returns-in-Refused : goal.returns-in-Refused
+returns-in-Refused c = c.refuse.ensures ∙ ap output_answer (sym c.in-Refused.is)
