@@ -26,4 +26,4 @@ pub returns-in-3 : goal.returns-in-3
 returns-in-3 c = let a = c.args in rw (c.return_of.ensures, c.call_of.ensures) (shows_early a.table.now a.partner.now a.pattern a.r (rw c.kind_of.ensures at c.if-kind_of-ne-REMOVE.false) c.if-above-eq0.false c.in-3.is)
 
 pub returns-in_default : goal.returns-in_default
-returns-in_default c = shows_no_other _ _ _ _ (rw c.kind_of.ensures at c.if-kind_of-ne-REMOVE.false) c.if-above-eq0.false c.in_default.in_default-own.rest.0.1 c.in_default.in_default-own.rest.1
+returns-in_default c = shows_no_other _ _ _ _ (rw c.kind_of.ensures at c.if-kind_of-ne-REMOVE.false) c.if-above-eq0.false (omega arith) (omega arith)

@@ -9,9 +9,6 @@ pub returns-then-log-at : goal.returns-then-log-at
 unfolding frame_at
 returns-then-log-at c = simp (le-leb _ _ c.if-log-at.true)
 
-pub overflow_cast-length : goal.overflow_cast-length
-overflow_cast-length c = omega (arith, c.shared_slice_known-1.given c.args.at)
-
 pub returns-then-log-start : goal.returns-then-log-start
 unfolding frame_at
 returns-then-log-start c = simp (lt-leb _ _ c.if-log-at.false, lt-ltb _ _ c.if-log-start.true)

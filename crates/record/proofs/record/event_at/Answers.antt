@@ -31,7 +31,7 @@ returns-in-1 c = rw c.in-1.is (ap CallAdd c.be32.ensures)
 
 pub returns-in_default : goal.returns-in_default
 unfolding event_of
-returns-in_default c = rw (call-kind _ c.requires.0 c.if-kind-lt3.true c.in_default.in_default-own.rest.1)
+returns-in_default c = rw (call-kind _ c.requires.0 c.if-kind-lt3.true (omega arith))
 
 pub returns-in-3 : goal.returns-in-3
 unfolding event_of
@@ -43,5 +43,5 @@ returns-in-4 c = rw c.in-4.is (ap (λ (v : ℕ). ReturnRemove (Value v)) c.be32-
 
 pub returns-in_default-kind : goal.returns-in_default-kind
 unfolding event_of
-returns-in_default-kind c = let kind = c.args.kind in let r = c.in_default-kind.in_default-kind-own.rest in
-    simp (ne_eqb kind 1 (omega (arith, c.if-kind-lt3.false)), ne_eqb kind 2 (omega (arith, c.if-kind-lt3.false)), ne_eqb kind 3 r.0.1, ne_eqb kind 4 r.1)
+returns-in_default-kind c = let kind = c.args.kind in
+    simp (ne_eqb kind 1 (omega (arith, c.if-kind-lt3.false)), ne_eqb kind 2 (omega (arith, c.if-kind-lt3.false)), ne_eqb kind 3 (omega arith), ne_eqb kind 4 (omega arith))

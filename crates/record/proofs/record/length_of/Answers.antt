@@ -1,5 +1,6 @@
 -- `length_of` meets its contract: each arm is a case of `length_of`.
 use Rattle.record.specs.Record.{length_of}
+use native.Mathlib.Omega.{arith}
 use borrow.Author.Tests.{ne_eqb}
 use Rattle.record.proofs.record.length_of.Goals as goal
 
@@ -26,5 +27,5 @@ returns-in-5 c = rw c.in-5.is
 
 pub returns-in_default : goal.returns-in_default
 unfolding length_of
-returns-in_default c = let r = c.in_default.in_default-own.rest in
-    simp (ne_eqb _ _ r.0.0.0.0.1, ne_eqb _ _ r.0.0.0.1, ne_eqb _ _ r.0.0.1, ne_eqb _ _ r.0.1, ne_eqb _ _ r.1)
+returns-in_default c = let kind = c.args.kind in
+    simp (ne_eqb kind 1 (omega arith), ne_eqb kind 2 (omega arith), ne_eqb kind 3 (omega arith), ne_eqb kind 4 (omega arith), ne_eqb kind 5 (omega arith))

@@ -1,4 +1,5 @@
 -- `serve` meets its contract: the laws of `Serving.antt`, one for each kind and outcome.
+use native.Mathlib.Omega.{arith}
 use Rattle.replay.proofs.Serving.{serves_add, serves_remove, serves_not_there, serves_not_front, serves_empty, serves_not_empty, serves_front, serves_idle, serves_none}
 use Rattle.replay.proofs.order.serve.Goals as goal
 
@@ -27,4 +28,4 @@ pub returns-else-head-tail-3 : goal.returns-else-head-tail-3
 returns-else-head-tail-3 c = serves_front _ _ _ _ c.requires.0 c.requires.1 c.requires.2 c.in-0.is c.if-head-tail-3.false
 
 pub returns-in_default : goal.returns-in_default
-returns-in_default c = serves_none _ _ _ _ c.requires.0 c.requires.1 c.requires.2 c.in_default.in_default-own.rest.0.0.0.1 c.in_default.in_default-own.rest.0.0.1 c.in_default.in_default-own.rest.0.1 c.in_default.in_default-own.rest.1
+returns-in_default c = serves_none _ _ _ _ c.requires.0 c.requires.1 c.requires.2 (omega arith) (omega arith) (omega arith) (omega arith)

@@ -28,4 +28,4 @@ pub returns-in-3 : goal.returns-in-3
 returns-in-3 c = rw (← c.kind_of-kind.ensures, c.in-3.is, ← c.return_of-in-3.ensures) refl
 
 pub returns-in_default : goal.returns-in_default
-returns-in_default c = rw (← c.kind_of-kind.ensures) (simp (ne_eqb _ _ c.in_default.in_default-own.rest.0.1, ne_eqb _ _ c.in_default.in_default-own.rest.1) refl)
+returns-in_default c = rw (← c.kind_of-kind.ensures) (simp (ne_eqb c.kind_of-kind.result 1 (omega arith), ne_eqb c.kind_of-kind.result 3 (omega arith)) refl)

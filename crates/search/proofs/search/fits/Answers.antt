@@ -24,4 +24,4 @@ returns-in-3 c = let a = c.args in
     (empties (rw c.kind_of-kind.ensures at c.in-3.is)) (λ fit. fit_empty fit (rw c.kind_of-kind.ensures at c.in-3.is))
 
 pub returns-in_default : goal.returns-in_default
-returns-in_default c = λ fit. omega (arith, fit_some fit, c.in_default.in_default-own.rest.0.0.1, c.in_default.in_default-own.rest.0.1, c.in_default.in_default-own.rest.1)
+returns-in_default c = λ fit. omega (arith, fit_some fit)

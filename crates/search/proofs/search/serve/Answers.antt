@@ -1,4 +1,5 @@
 -- `serve` meets its contract.
+use native.Mathlib.Omega.{arith}
 use Rattle.search.proofs.Queueing.{queues_add, queues_remove, queues_empty}
 use Rattle.search.proofs.search.serve.Goals as goal
 
@@ -9,4 +10,4 @@ pub returns-in-2 : goal.returns-in-2
 returns-in-2 c = queues_remove _ _ _ _ c.requires.0 c.requires.1 c.requires.4 c.in-2.is
 
 pub returns-in_default : goal.returns-in_default
-returns-in_default c = queues_empty _ _ _ _ c.requires.0 c.requires.1 c.requires.4 c.in_default.in_default-own.rest.0.1 c.in_default.in_default-own.rest.1
+returns-in_default c = queues_empty _ _ _ _ c.requires.0 c.requires.1 c.requires.4 (omega arith) (omega arith)

@@ -1,4 +1,5 @@
 -- `fits` meets its contract: at each return the tests that led there say which case of `session_fits` holds.
+use native.Mathlib.Omega.{arith}
 use mathlib.Core.Path.{sym, ap, ◌∙◌}
 use lib.Seq.{length-take-le}
 use borrow.Author.Tests.{lt-ltb, le-ltb, ne_eqb}
@@ -22,4 +23,4 @@ pub returns-in-1 : goal.returns-in-1
 returns-in-1 c = rw (c.in-1.is, le-ltb _ _ c.if-buf-end.false) (c.is_readable-in-1.ensures ∙ ap is_readable c.check.ensures)
 
 pub returns-in_default : goal.returns-in_default
-returns-in_default c = rw (le-ltb _ _ c.if-buf-end.false, ne_eqb _ _ c.in_default.in_default-own.rest.0.1, ne_eqb _ _ c.in_default.in_default-own.rest.1)
+returns-in_default c = rw (le-ltb _ _ c.if-buf-end.false, ne_eqb c.args.stage 0 (omega arith), ne_eqb c.args.stage 1 (omega arith))

@@ -1,4 +1,5 @@
 -- `letter_of` meets its contract: each arm is a case of the definition.
+use native.Mathlib.Omega.{arith}
 use borrow.Author.Tests.{ne_eqb}
 use Rattle.timeline.proofs.line.letter_of.Goals as goal
 
@@ -10,4 +11,4 @@ pub returns-in-3 : goal.returns-in-3
 returns-in-3 c = rw c.in-3.is
 
 pub returns-in_default : goal.returns-in_default
-returns-in_default c = let r = c.in_default.in_default-own.rest in simp (ne_eqb _ _ r.0.1, ne_eqb _ _ r.1)
+returns-in_default c = simp (ne_eqb c.args.kind 1 (omega arith), ne_eqb c.args.kind 3 (omega arith))
