@@ -36,6 +36,6 @@ overflow_sub-result c = omega (arith, looking_called c.loop-stop.invariant)
 
 pub returns : goal.returns
 returns c = elim c.loop-stop-test.branch [
-      then-loop-stop-test+else-be32-tick w ↦ looking_stops c.loop-stop.invariant w.loop-stop-test.true w.be32.ensures w.if-be32-tick.false
-    | else-loop-stop-test w ↦ looking_ends c.loop-stop.invariant w.loop-stop-test.false
-    ]
+  | then-loop-stop-test+else-be32-tick w ↦ looking_stops c.loop-stop.invariant w.loop-stop-test.true w.be32.ensures w.if-be32-tick.false
+  | else-loop-stop-test w ↦ looking_ends c.loop-stop.invariant w.loop-stop-test.false
+]

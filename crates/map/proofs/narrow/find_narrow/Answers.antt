@@ -1,7 +1,7 @@
 -- `find_narrow` meets its contract, as `find` does: the search along the chain has come to `next`, and links fall, so it ends.
 use Prim.Native.Nat.{◌-◌, ◌<◌}
 use native.Mathlib.Omega.{arith}
-use Rattle.map.specs.Map.{map_size, narrow_slot_of}
+use Rattle.map.specs.Map.{map_size}
 use Rattle.map.proofs.Chains.{unmet_starts, unmet_hit, unmet_miss, unmet_none}
 use Rattle.map.proofs.narrow.find_narrow.Goals as goal
 
@@ -9,7 +9,7 @@ pub loop-next-init : goal.loop-next-init
 loop-next-init c = rw c.narrow_slot_of.ensures.0 (unmet_starts (c.requires.chained.heads _ (omega (arith, c.narrow_slot_of.ensures.0, c.narrow_slot_of.ensures.1))))
 
 pub bounds-keys-i : goal.bounds-keys-i
-bounds-keys-i c = 
+bounds-keys-i c =
     let in_use : c.loop-next.next - 1 < c.args.count = omega (arith, c.loop-next.invariant.within, c.loop-next-test.true) in
     let small : c.loop-next.next - 1 < map_size = omega (arith, in_use, c.requires.within) in
     small
@@ -18,18 +18,18 @@ pub returns-then-keys-i : goal.returns-then-keys-i
 returns-then-keys-i c = unmet_hit c.loop-next.invariant c.loop-next-test.true c.if-keys-i.true
 
 pub bounds-links-i : goal.bounds-links-i
-bounds-links-i c = 
+bounds-links-i c =
     let in_use : c.loop-next.next - 1 < c.args.count = omega (arith, c.loop-next.invariant.within, c.loop-next-test.true) in
     let small : c.loop-next.next - 1 < map_size = omega (arith, in_use, c.requires.within) in
     small
 
 pub loop-next-smaller : goal.loop-next-smaller
-loop-next-smaller c = 
+loop-next-smaller c =
     let in_use : c.loop-next.next - 1 < c.args.count = omega (arith, c.loop-next.invariant.within, c.loop-next-test.true) in
     omega (arith, ((c.requires.chained.links _ (in_use))).within, c.loop-next-test.true)
 
 pub loop-next-preserved : goal.loop-next-preserved
-loop-next-preserved c = 
+loop-next-preserved c =
     let in_use : c.loop-next.next - 1 < c.args.count = omega (arith, c.loop-next.invariant.within, c.loop-next-test.true) in
     unmet_miss c.loop-next.invariant c.loop-next-test.true c.if-keys-i.false ((c.requires.chained.links _ (in_use)))
 

@@ -16,13 +16,13 @@ pub loop-a-preserved : goal.loop-a-preserved
 loop-a-preserved c = let so_far = c.loop-a.invariant.1 in (
   omega arith,
   elim c.if-kind_of-eq-ADD.branch [
-    then-kind_of-eq-ADD+then-returned-end w ↦
-      rw (w.noted-is, w.return_of-returned.ensures) (returns_add so_far c.requires.0.short
-      (record { known = c.loop-a-test.true; kinds = rw c.kind_of.ensures at w.if-kind_of-eq-ADD.true })
-      (rw w.return_of-returned.ensures at w.if-returned-end.true)
-      (rw w.return_of-returned.ensures at w.max.ensures))
-  | then-kind_of-eq-ADD+else-returned-end w ↦ rw w.noted-is (returns_other so_far (λ is r. omega (arith, w.if-returned-end.false)))
-  | else-kind_of-eq-ADD w ↦ rw w.noted-is (returns_other so_far (λ is r. omega (arith, w.if-kind_of-eq-ADD.false)))
+    | then-kind_of-eq-ADD+then-returned-end w ↦
+        rw (w.noted-is, w.return_of-returned.ensures) (returns_add so_far c.requires.0.short
+        (record { known = c.loop-a-test.true; kinds = rw c.kind_of.ensures at w.if-kind_of-eq-ADD.true })
+        (rw w.return_of-returned.ensures at w.if-returned-end.true)
+        (rw w.return_of-returned.ensures at w.max.ensures))
+    | then-kind_of-eq-ADD+else-returned-end w ↦ rw w.noted-is (returns_other so_far (λ is r. omega (arith, w.if-returned-end.false)))
+    | else-kind_of-eq-ADD w ↦ rw w.noted-is (returns_other so_far (λ is r. omega (arith, w.if-kind_of-eq-ADD.false)))
   ],
 )
 

@@ -15,9 +15,9 @@ pub loop-a-preserved : goal.loop-a-preserved
 loop-a-preserved c = let inv = c.loop-a.invariant.1 in let kind = c.kind_of.ensures in (
   omega arith,
   elim c.if-kind_of-eq-ADD.branch [
-      then-kind_of-eq-ADD w ↦ rw (w.values-is, w.chains-is, w.adds-is, w.n-is) (mapped_more inv (omega (arith, c.loop-a-test.true)) (sym kind ∙ w.if-kind_of-eq-ADD.true) (rw w.value_of.ensures at w.push.ensures.0) w.push.ensures.1)
+    | then-kind_of-eq-ADD w ↦ rw (w.values-is, w.chains-is, w.adds-is, w.n-is) (mapped_more inv (omega (arith, c.loop-a-test.true)) (sym kind ∙ w.if-kind_of-eq-ADD.true) (rw w.value_of.ensures at w.push.ensures.0) w.push.ensures.1)
     | else-kind_of-eq-ADD w ↦ rw (w.values-is, w.chains-is, w.adds-is, w.n-is) (mapped_other inv (rw kind at w.if-kind_of-eq-ADD.false))
-    ],
+  ],
 )
 
 pub returns : goal.returns

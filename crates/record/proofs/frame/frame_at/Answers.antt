@@ -1,6 +1,5 @@
 -- `frame_at` meets its contract: at each return the tests that led there say which case of `frame_at` holds.
 use Rattle.record.specs.Frame.{frame_at}
-use native.Mathlib.Omega.{arith}
 use borrow.Author.Tests.{le-leb, lt-leb, lt-ltb, le-ltb, eq-eqb, ne_eqb}
 use Rattle.record.proofs.frame.frame_at.Goals as goal
 
