@@ -7,7 +7,7 @@ use mathlib.Core.Bool.{Bool, true, false}
 use mathlib.Core.Logic.{◌⊎◌, inl, inr}
 use mathlib.Core.List.{List, []}
 use lib.ListN.{take}
-use Rattle.record.specs.Choice.{if◌then◌else◌}
+use Rattle.std.specs.Prelude.{if◌then◌else◌}
 use Rattle.record.specs.declared.record.Record.{Record}
 use Rattle.buffer.specs.declared.output.Output.TheVariants.{Written, Refused}
 use Rattle.reader.specs.Log.{readable, read_log, encode_log, has_pending_remove}

@@ -1,7 +1,6 @@
 -- What a call that writes leaves in a lent buffer. Document 01: "An accepted call that writes returns how many bytes it wrote ..; bytes behind them
 -- keep their contents", and 24: "a buffer too short for the complete answer".
-use Rattle.std.specs.Prelude.{ℕ, ◌+◌, Bool, List, ◌++◌, length, take, drop, ltb}
-use Rattle.record.specs.Choice.{if◌then◌else◌}
+use Rattle.std.specs.Prelude.{ℕ, ◌+◌, Bool, List, ◌++◌, length, take, drop, ltb, if◌then◌else◌}
 
 abbrev pub buffer_too_short : ℕ
 buffer_too_short = 24

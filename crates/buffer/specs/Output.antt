@@ -1,6 +1,5 @@
 -- What a call that writes into a lent buffer answers, and the number that its caller gets: "how many bytes it wrote", or a refusal.
-use Rattle.std.specs.Prelude.{ℕ, ◌+◌, ◌*◌, List, length}
-use Rattle.record.specs.Choice.{if◌then◌else◌}
+use Rattle.std.specs.Prelude.{ℕ, ◌+◌, ◌*◌, List, length, if◌then◌else◌}
 use Rattle.buffer.specs.Buffer.{buffer_too_short, lacks_room}
 use Rattle.buffer.specs.declared.output.Output.{Output}
 use Rattle.buffer.specs.declared.output.Output.TheVariants.{Written, Refused}

@@ -1,6 +1,5 @@
 -- What the code finds of a remove that has not returned. What the judge answers can be understood without this file.
-use Rattle.std.specs.Prelude.{ℕ, ◌≤◌, ◌<◌, ◌≡◌, List, eqb}
-use Rattle.record.specs.Choice.{if◌then◌else◌}
+use Rattle.std.specs.Prelude.{ℕ, ◌≤◌, ◌<◌, ◌≡◌, List, eqb, if◌then◌else◌}
 use Rattle.history.specs.History.{History, add}
 use Rattle.matching.specs.Matching.{partner_at}
 

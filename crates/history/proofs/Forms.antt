@@ -7,7 +7,7 @@ use mathlib.Core.List.{List}
 use lib.ListN.{length, get_or}
 use lib.Dec.{ltb, eqb}
 use borrow.Author.Tests.{eqb-true, le-ltb, ne_eqb, eq-eqb}
-use Rattle.record.specs.Choice.{if◌then◌else◌}
+use Rattle.std.specs.Prelude.{if◌then◌else◌}
 use Rattle.history.specs.Sheet.{sheet_header, sheet_version, order_verdict, listed_field, is_order_sheet}
 
 -- the tests of a sheet's form, in their order

@@ -11,7 +11,7 @@ use lib.ListN.{length, take, drop, length-drop}
 use lib.Seq.{take-suc, take-add, get_or-drop, take-length, take_all}
 use lib.Dec.{eqb}
 use borrow.Author.Tests.{lt-ltb, le-ltb, eqb-true, eqb-false}
-use Rattle.record.specs.Choice.{if◌then◌else◌}
+use Rattle.std.specs.Prelude.{if◌then◌else◌}
 use Rattle.record.specs.declared.record.Event.TheVariants.{CallRemove}
 use Rattle.record.specs.declared.record.Record.{Record}
 use Rattle.reader.specs.Log.{is_call, operations}

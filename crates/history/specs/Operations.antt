@@ -1,7 +1,6 @@
 -- The operations that the records of a log tell of. Document 01, "The log": "Operations are numbered from 0 in the order of
 -- their call records."
-use Rattle.std.specs.Prelude.{ℕ, zero, suc, ◌+◌, ◌-◌, ◌<◌, List, [], ◌∷◌, length, drop, ltb, eqb}
-use Rattle.record.specs.Choice.{if◌then◌else◌}
+use Rattle.std.specs.Prelude.{ℕ, zero, suc, ◌+◌, ◌-◌, ◌<◌, List, [], ◌∷◌, length, drop, ltb, eqb, if◌then◌else◌}
 use Rattle.record.specs.Record.{value_in}
 use Rattle.record.specs.declared.record.Removed.TheVariants.{Value, Empty}
 use Rattle.record.specs.declared.record.Event.{Event}

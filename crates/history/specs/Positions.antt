@@ -1,7 +1,6 @@
 -- Where the records of a log stand in time. Document 02, change 3: "records are taken by tick, within a tick the calls before the returns, else as
 -- they stand".
-use Rattle.std.specs.Prelude.{ℕ, zero, suc, ◌+◌, ◌-◌, ◌*◌, Bool, List, length, ltb}
-use Rattle.record.specs.Choice.{if◌then◌else◌}
+use Rattle.std.specs.Prelude.{ℕ, zero, suc, ◌+◌, ◌-◌, ◌*◌, Bool, List, length, ltb, if◌then◌else◌}
 use Rattle.record.specs.declared.record.Record.{Record}
 use Rattle.reader.specs.Log.{is_call, max_records}
 use Rattle.reader.specs.Readable.{record_of}

@@ -1,7 +1,6 @@
 -- Document 01, "Sheet, excerpt, narrowing": "Sheet: version byte 1; verdict byte, 0 for an order or the pattern number; two bytes k;
 -- then k operation numbers of two bytes."
-use Rattle.std.specs.Prelude.{ℕ, zero, suc, ◌+◌, ◌*◌, Bool, false, not, List, [], ◌∷◌, ◌++◌, length, get_or, ltb, eqb}
-use Rattle.record.specs.Choice.{if◌then◌else◌}
+use Rattle.std.specs.Prelude.{ℕ, zero, suc, ◌+◌, ◌*◌, Bool, false, not, List, [], ◌∷◌, ◌++◌, length, get_or, ltb, eqb, if◌then◌else◌}
 use Rattle.record.specs.Number.{big_endian, bytes_of}
 
 abbrev pub sheet_version : ℕ

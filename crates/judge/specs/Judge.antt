@@ -1,7 +1,6 @@
 -- What judging a log into a lent sheet may answer and leave behind. Document 01: "The verdict is an order, a pattern with its operations, or a
 -- refusal", "What the wording has to hold fast", 1.
-use Rattle.std.specs.Prelude.{ℕ, ◌+◌, ◌*◌, ◌≡◌, List, length, eqb}
-use Rattle.record.specs.Choice.{if◌then◌else◌}
+use Rattle.std.specs.Prelude.{ℕ, ◌+◌, ◌*◌, ◌≡◌, List, length, eqb, if◌then◌else◌}
 use Rattle.record.specs.declared.record.Record.{Record}
 use Rattle.buffer.specs.Buffer.{buffer_too_short, lacks_room, written}
 use Rattle.reader.specs.Log.{Reading, readable, refused}

@@ -1,6 +1,5 @@
 -- What the program prints for a log. Document 01, "The program".
-use Rattle.std.specs.Prelude.{ℕ, ◌≤◌, ◌≡◌, List, [], ◌∷◌, ◌++◌, map, length, take, drop, eqb}
-use Rattle.record.specs.Choice.{if◌then◌else◌}
+use Rattle.std.specs.Prelude.{ℕ, ◌≤◌, ◌≡◌, List, [], ◌∷◌, ◌++◌, map, length, take, drop, eqb, if◌then◌else◌}
 use Rattle.record.specs.declared.record.Record.{Record}
 use Rattle.text.specs.Text.{ascii, decimal, line}
 use Rattle.reader.specs.Log.{Reading, readable, refused, operations}

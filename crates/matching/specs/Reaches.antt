@@ -1,6 +1,5 @@
 -- What the code keeps of how far values reach: a table with a number for each add. What the judge answers can be understood without this file.
-use Rattle.std.specs.Prelude.{ℕ, ◌-◌, ◌<◌, ◌≡◌, List, length, get_or, eqb}
-use Rattle.record.specs.Choice.{if◌then◌else◌}
+use Rattle.std.specs.Prelude.{ℕ, ◌-◌, ◌<◌, ◌≡◌, List, length, get_or, eqb, if◌then◌else◌}
 use Rattle.reader.specs.Log.{max_records}
 use Rattle.history.specs.History.{History, add, no_kind}
 use Rattle.history.specs.Table.{call_at}

@@ -7,7 +7,7 @@ use mathlib.Core.List.{List, [], ◌∷◌}
 use lib.ListN.{length, take}
 use lib.Dec.{eqb}
 use lib.Seq.{sets, length-sets, sets-eq, take-append_seam}
-use Rattle.record.specs.Choice.{if◌then◌else◌}
+use Rattle.std.specs.Prelude.{if◌then◌else◌}
 use Rattle.reader.specs.Log.{max_records}
 use Rattle.reader.specs.Search.{None}
 use Rattle.history.specs.Object.{Queue}

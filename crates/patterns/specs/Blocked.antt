@@ -1,6 +1,5 @@
 -- What the code finds of the patterns 4 and 5. What the judge answers can be understood without this file.
-use Rattle.std.specs.Prelude.{ℕ, ◌-◌, ◌≤◌, ◌<◌, ◌≡◌, List, length, get_or, eqb}
-use Rattle.record.specs.Choice.{if◌then◌else◌}
+use Rattle.std.specs.Prelude.{ℕ, ◌-◌, ◌≤◌, ◌<◌, ◌≡◌, List, length, get_or, eqb, if◌then◌else◌}
 use Rattle.history.specs.History.{History, add}
 use Rattle.history.specs.Positions.{max_positions}
 use Rattle.history.specs.Table.{kind_at, call_at, return_at}

@@ -10,7 +10,7 @@ use lib.ListN.{length, get_or, take}
 use lib.Dec.{eqb}
 use lib.Seq.{take-suc, take_all, length-take-le}
 use borrow.Author.Tests.{ne_eqb}
-use Rattle.record.specs.Choice.{if◌then◌else◌}
+use Rattle.std.specs.Prelude.{if◌then◌else◌}
 use Rattle.reader.specs.Log.{max_records}
 use Rattle.table.specs.Table.{Pushed}
 use Rattle.history.specs.History.{History, empty_remove, no_kind}

@@ -1,8 +1,7 @@
 -- What narrowing and the excerpt answer, and what they leave in the lent buffer. Document 01, "Turned down by how things stand": "then the input
 -- list, 23, 24", with refusal 32 of document 02, change 4.
-use Rattle.std.specs.Prelude.{ℕ, ◌⊎◌, List}
+use Rattle.std.specs.Prelude.{ℕ, ◌⊎◌, List, if◌then◌else◌}
 use Rattle.std.proofs.Common.{inl, inr}
-use Rattle.record.specs.Choice.{if◌then◌else◌}
 use Rattle.record.specs.declared.record.Record.{Record}
 use Rattle.buffer.specs.Buffer.{written}
 use Rattle.buffer.specs.Output.{writing}

@@ -1,8 +1,7 @@
 -- Logs written out of a log. Document 01, "Sheet, excerpt, narrowing": "Excerpt: the log of all records of all operations on the values of the
 -- listed operations, and of the listed empty remove, in their places, with clients and ticks as they were." "Narrowing to a list of values keeps
 -- all records of operations on those values and nothing else; repeats in the list change nothing."
-use Rattle.std.specs.Prelude.{ℕ, Bool, false, List, [], ◌∷◌, eqb}
-use Rattle.record.specs.Choice.{if◌then◌else◌}
+use Rattle.std.specs.Prelude.{ℕ, Bool, false, List, [], ◌∷◌, eqb, if◌then◌else◌}
 use Rattle.record.specs.declared.record.Record.{Record}
 use Rattle.table.specs.Table.{is_in}
 use Rattle.history.specs.History.{History, empty_remove, no_kind}

@@ -7,7 +7,7 @@ use mathlib.Core.List.{List, [], ◌∷◌, reverse}
 use lib.ListN.{length, get_or, length-reverse}
 use lib.Dec.{ltb, leb, eqb, lit≤}
 use borrow.Author.Tests.{ltb-true, ltb-false, eqb-false}
-use Rattle.record.specs.Choice.{if◌then◌else◌}
+use Rattle.std.specs.Prelude.{if◌then◌else◌}
 use Rattle.record.specs.Refusal.{max_refusal}
 use Rattle.record.specs.Frame.{frame_at}
 use Rattle.record.specs.Record.{length_of, record_at, decode_in, decode_at}

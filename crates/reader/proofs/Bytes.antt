@@ -10,7 +10,7 @@ use lib.ListN.{length, get_or, take, drop, length-append, length-reverse, get_or
 use lib.Seq.{take-add, take-length, take-append-le, take-append_seam, take-append-add, drop-cons, drop-drop, get_or-append_seam}
 use lib.Dec.{eqb}
 use borrow.Author.Tests.{eqb-true, eqb-false}
-use Rattle.record.specs.Choice.{if◌then◌else◌}
+use Rattle.std.specs.Prelude.{if◌then◌else◌}
 use Rattle.record.specs.Number.{big_endian, bytes_of, Bytes}
 use Rattle.record.specs.Frame.{frame_at}
 use Rattle.record.specs.Record.{kind_of, length_of, event_of, encode, record_at, decode_in, decode_at, size_of, value_in, Small}

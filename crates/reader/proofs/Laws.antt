@@ -8,7 +8,7 @@ use mathlib.Core.List.{List, [], ◌++◌}
 use lib.ListN.{length, length-reverse}
 use lib.Dec.{ltb}
 use borrow.Author.Tests.{ltb-false}
-use Rattle.record.specs.Choice.{if◌then◌else◌}
+use Rattle.std.specs.Prelude.{if◌then◌else◌}
 use Rattle.record.specs.declared.record.Record.{Record}
 use Rattle.reader.specs.Log.{max_records, encode_log, Reading, readable, refused, second_remove, read_partial, complete, read_log, operations, checked}
 use Rattle.reader.specs.Readable.{Within, record_of, asks, Next, Regular, PartialLog, ReadableLog, Writable}

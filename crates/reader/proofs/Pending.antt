@@ -8,7 +8,7 @@ use lib.ListN.{length, get_or, drop, length-map, length-drop, get_or-map}
 use lib.Seq.{get_or-drop}
 use lib.Dec.{eqb}
 use borrow.Author.Tests.{eq-eqb, eqb-true}
-use Rattle.record.specs.Choice.{if◌then◌else◌}
+use Rattle.std.specs.Prelude.{if◌then◌else◌}
 use Rattle.record.specs.declared.record.Event.TheVariants.{CallRemove}
 use Rattle.record.specs.declared.record.Record.{Record}
 use Rattle.table.specs.Table.{is_in}

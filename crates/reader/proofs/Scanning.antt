@@ -7,7 +7,7 @@ use mathlib.Core.List.{List, [], ◌∷◌, ◌++◌, reverse, reverse-cons, rev
 use lib.ListN.{length, get_or, drop, length-reverse, length-replicate, length-drop}
 use lib.Dec.{ltb, eqb}
 use mathlib.Core.Bool.{Bool, true, false, not}
-use Rattle.record.specs.Choice.{if◌then◌else◌}
+use Rattle.std.specs.Prelude.{if◌then◌else◌}
 use borrow.Author.Tests.{lt-ltb, le-ltb, lt-leb, le-leb, eq-eqb, ne_eqb, ltb-false}
 use Rattle.record.specs.Record.{decode_at}
 use Rattle.record.specs.declared.record.Record.{Record}

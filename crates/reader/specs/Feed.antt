@@ -1,7 +1,6 @@
 -- What bytes come to that are handed in as one record behind a log. Document 01, "Turned down by what was handed in": "For a feed: not exactly one
 -- record." "A feed makes its whole test for 1, bytes behind the record included, before the rest of the list."
-use Rattle.std.specs.Prelude.{ℕ, ◌+◌, Bool, not, List, reverse, length, get_or, leb, eqb}
-use Rattle.record.specs.Choice.{if◌then◌else◌}
+use Rattle.std.specs.Prelude.{ℕ, ◌+◌, Bool, not, List, reverse, length, get_or, leb, eqb, if◌then◌else◌}
 use Rattle.record.specs.Refusal.{wrong_bytes}
 use Rattle.record.specs.Record.{decode_at}
 use Rattle.record.specs.declared.record.Record.{Record}

@@ -1,7 +1,6 @@
 -- Document 01, "The log" and "Turned down by what was handed in", with document 02, changes 3 (refusal 31) and 4 (refusal 10): what a whole log is
 -- read as. The records come one after the other; each is held against those before it, which stand here latest first; then left bytes, then 10.
-use Rattle.std.specs.Prelude.{ℕ, zero, suc, ◌+◌, Bool, false, not, List, [], ◌∷◌, ◌++◌, map, reverse, length, get_or, drop, ltb, eqb}
-use Rattle.record.specs.Choice.{if◌then◌else◌}
+use Rattle.std.specs.Prelude.{ℕ, zero, suc, ◌+◌, Bool, false, not, List, [], ◌∷◌, ◌++◌, map, reverse, length, get_or, drop, ltb, eqb, if◌then◌else◌}
 use Rattle.record.specs.Number.{big_endian, bytes_of}
 use Rattle.record.specs.Refusal.{wrong_bytes, wrong_version, too_many_records, tick_fell, client_busy, no_such_call, added_twice, remove_pending, tick_repeated}
 use Rattle.record.specs.Record.{encode, decode_at}

@@ -1,7 +1,6 @@
 -- What the code keeps of the records that it has read, in tables of numbers and two maps. What a readable log is can be understood without this
 -- file.
-use Rattle.std.specs.Prelude.{ℕ, suc, ◌+◌, ◌*◌, ◌/◌, ◌%◌, ◌≤◌, ◌<◌, ◌≡◌, not, List, [], ◌∷◌, reverse, length, get_or, set, take, ltb, eqb}
-use Rattle.record.specs.Choice.{if◌then◌else◌}
+use Rattle.std.specs.Prelude.{ℕ, suc, ◌+◌, ◌*◌, ◌/◌, ◌%◌, ◌≤◌, ◌<◌, ◌≡◌, not, List, [], ◌∷◌, reverse, length, get_or, set, take, ltb, eqb, if◌then◌else◌}
 use Rattle.record.specs.Refusal.{wrong_bytes, wrong_version, too_many_records, tick_fell}
 use Rattle.record.specs.declared.record.Record.{Record}
 use Rattle.map.specs.Map.{Latest, Linked, NarrowLinked}

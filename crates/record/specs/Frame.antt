@@ -1,6 +1,5 @@
 -- Document 01, "The log": "Each record is one length byte L, then L bytes". What stands at a position, whatever its kind.
-use Rattle.std.specs.Prelude.{ℕ, ◌+◌, ◌-◌, List, length, get_or, ltb, leb, eqb}
-use Rattle.record.specs.Choice.{if◌then◌else◌}
+use Rattle.std.specs.Prelude.{ℕ, ◌+◌, ◌-◌, List, length, get_or, ltb, leb, eqb, if◌then◌else◌}
 use Rattle.record.specs.Refusal.{wrong_bytes, wrong_length}
 use Rattle.record.specs.declared.frame.Frame.{Frame}
 use Rattle.record.specs.declared.frame.Frame.TheVariants.{Framed, Cut}

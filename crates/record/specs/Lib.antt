@@ -1,4 +1,3 @@
-pub mod Choice
 pub mod Number
 pub mod Refusal
 pub mod Frame

@@ -1,8 +1,7 @@
 -- What replay answers for a log and a sheet. Document 01, "Turned down by what was handed in", 11, and demand 2: replay says yes
 -- to a log and an order exactly if that order is legal for that log. A remove that has not returned may stand in it once or be left
 -- out (document 02, change 4: legal "in this wider sense, and replay uses it too").
-use Rattle.std.specs.Prelude.{ℕ, ◌≡◌, true, List}
-use Rattle.record.specs.Choice.{if◌then◌else◌}
+use Rattle.std.specs.Prelude.{ℕ, ◌≡◌, true, List, if◌then◌else◌}
 use Rattle.record.specs.declared.record.Record.{Record}
 use Rattle.reader.specs.Log.{Reading, readable, refused, read_log}
 use Rattle.history.specs.Object.{Queue}

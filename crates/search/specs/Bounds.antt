@@ -1,7 +1,6 @@
 -- What the code keeps of limits: how far a value that enters the queue may reach while an operation is left. What the judge answers can be
 -- understood without this file.
-use Rattle.std.specs.Prelude.{ℕ, ◌+◌, ◌-◌, ◌≤◌, ◌<◌, ◌≡◌, List, length, get_or, eqb}
-use Rattle.record.specs.Choice.{if◌then◌else◌}
+use Rattle.std.specs.Prelude.{ℕ, ◌+◌, ◌-◌, ◌≤◌, ◌<◌, ◌≡◌, List, length, get_or, eqb, if◌then◌else◌}
 use Rattle.reader.specs.Log.{max_records}
 use Rattle.history.specs.History.{add, empty_remove}
 use Rattle.history.specs.Table.{kind_at, return_at}

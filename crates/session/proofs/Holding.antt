@@ -8,7 +8,7 @@ use lib.ListN.{length, drop, length-append}
 use lib.Dec.{ltb, leb, eqb}
 use lib.Seq.{take-append_seam, drop-append-add}
 use borrow.Author.Tests.{le-ltb, lt-leb, leb-false, eqb-true}
-use Rattle.record.specs.Choice.{if◌then◌else◌}
+use Rattle.std.specs.Prelude.{if◌then◌else◌}
 use Rattle.record.specs.Number.{bytes_of, Bytes}
 use Rattle.record.specs.Record.{encode, size_of, Small}
 use Rattle.record.specs.declared.record.Record.{Record}

@@ -1,7 +1,6 @@
 -- Document 01, "Sessions" and "Turned down by how things stand": what is answered to begin, feed, close, sheet and excerpt, and what they leave of the
 -- session and its buffer. A session is two numbers, its stage and how many bytes of its buffer are used.
-use Rattle.std.specs.Prelude.{ℕ, ◌+◌, Bool, true, false, not, List, [], ◌∷◌, length, take, ltb, eqb}
-use Rattle.record.specs.Choice.{if◌then◌else◌}
+use Rattle.std.specs.Prelude.{ℕ, ◌+◌, Bool, true, false, not, List, [], ◌∷◌, length, take, ltb, eqb, if◌then◌else◌}
 use Rattle.buffer.specs.Buffer.{buffer_too_short, written, put}
 use Rattle.buffer.specs.Output.{writing}
 use Rattle.buffer.specs.declared.output.Output.{Output}

@@ -9,7 +9,7 @@ use lib.ListN.{length, get_or, set, replicate, take, drop, drop_of_length-le, le
 use lib.Seq.{take-suc, take-suc-set, take-set-lt, drop-cons, drop-set-lt, get_or-take, length-take-le}
 use lib.Dec.{eqb}
 use borrow.Author.Tests.{eq-eqb, ne_eqb}
-use Rattle.record.specs.Choice.{if◌then◌else◌}
+use Rattle.std.specs.Prelude.{if◌then◌else◌}
 use Rattle.table.specs.Table.{table_size, is_in, Pushed}
 
 -- an array of zeros

@@ -11,7 +11,7 @@ use lib.Seq.{take_all, take_at, drop_at, get_or_at, take-append-le, drop-append-
 use lib.Dec.{leb, eqb}
 use native.Mathlib.Decide.{dec_lt}
 use borrow.Author.Tests.{lt-leb, le-leb}
-use Rattle.record.specs.Choice.{if◌then◌else◌}
+use Rattle.std.specs.Prelude.{if◌then◌else◌}
 use Rattle.text.specs.Text.{space, line_feed, decimal}
 use Rattle.text.proofs.Decimals.{decimal_few}
 use Rattle.history.specs.History.{empty_remove, no_kind}

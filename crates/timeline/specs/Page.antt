@@ -1,7 +1,6 @@
 -- The page of a log. Document 02, change 1: "A readable log of at most 63 records is laid out as one line per operation, in number
 -- order, each 80 characters and a line feed."
-use Rattle.std.specs.Prelude.{ℕ, zero, suc, ◌-◌, ◌&&◌, List, [], ◌∷◌, ◌++◌, length, replicate, ltb, leb, eqb}
-use Rattle.record.specs.Choice.{if◌then◌else◌}
+use Rattle.std.specs.Prelude.{ℕ, zero, suc, ◌-◌, ◌&&◌, List, [], ◌∷◌, ◌++◌, length, replicate, ltb, leb, eqb, if◌then◌else◌}
 use Rattle.record.specs.declared.record.Record.{Record}
 use Rattle.buffer.specs.Buffer.{written}
 use Rattle.buffer.specs.Output.{writing}

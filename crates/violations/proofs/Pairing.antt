@@ -9,7 +9,7 @@ use lib.ListN.{length, get_or, drop, length-append, get_or-append}
 use lib.Seq.{drop-cons, get_or-append_seam}
 use lib.Dec.{eqb}
 use borrow.Author.Tests.{eq-eqb, ne_eqb}
-use Rattle.record.specs.Choice.{if◌then◌else◌}
+use Rattle.std.specs.Prelude.{if◌then◌else◌}
 use Rattle.history.specs.History.{History, add, remove, empty_remove}
 use Rattle.history.specs.Linearization.{Makes, puts, takes, meets, Fifo, placed}
 use Rattle.history.proofs.Queues.{makes_empty}

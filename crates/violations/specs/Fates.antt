@@ -2,8 +2,7 @@
 -- the remove of each value added and not otherwise removed, lowest add first, and lists the first success. If none succeeds, the
 -- pattern is the one found with it left out." What has no kind is in no `CompleteLinearization` and in no pattern, so the history
 -- as it stands has it left out.
-use Rattle.std.specs.Prelude.{ℕ, ◌-◌, ◌<◌, List, eqb}
-use Rattle.record.specs.Choice.{if◌then◌else◌}
+use Rattle.std.specs.Prelude.{ℕ, ◌-◌, ◌<◌, List, eqb, if◌then◌else◌}
 use Rattle.history.specs.Object.{Object, Queue, Cell}
 use Rattle.history.specs.History.{History, add, remove, no_kind, RemovesReturned}
 use Rattle.history.specs.Linearization.{CompleteLinearization}
