@@ -14,7 +14,7 @@ fn main() {
     println!("cargo:rerun-if-changed={}", archive.display());
     if !archive.is_file() {
         panic!(
-            "{} is missing; `rt staticlib yauponroof` makes it",
+            "{} is missing; `./install target/prefix` makes it",
             archive.display()
         );
     }

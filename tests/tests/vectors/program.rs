@@ -51,10 +51,10 @@ fn printed(input: &[u8]) -> Result<String, String> {
 /// The gate builds the program before it runs the tests. It is not left out: where it is missing,
 /// the test fails.
 fn program() -> PathBuf {
-    let path = Path::new(env!("CARGO_MANIFEST_DIR")).join("../target/bin/judge_cli");
+    let path = Path::new(env!("CARGO_MANIFEST_DIR")).join("../crates/judge_cli/out/judge_cli");
     assert!(
         path.is_file(),
-        "{} is missing; `rt check judge_cli` makes it",
+        "{} is missing; `rt run` in crates/judge_cli makes it",
         path.display()
     );
     path
