@@ -26,7 +26,7 @@ lowest_false_empty {e = e} first none _ (false_empty {e = f} t) =
 module _ {h : History} (clean : (n : ℕ) (listed : List ℕ) → n < 6 → Occurs Queue h n listed → ⊥) {k : ℕ} {list : List ℕ} (first : FirstChained h k list) where
   -- what is listed is the first violation
   pub chained_first : 0 < k → FirstViolation Queue h 6 (take k list)
-  chained_first l = let (e, chain, is, found, none) = first.found l in rw is (record { occurs = false_empty found; lowest_number_lem = clean; lowest_list = lowest_false_empty found none })
+  chained_first l = let (e, chain, is, found, none) = first.found l in rw is (record { occurs = false_empty found; lowest_number = clean; lowest_list = lowest_false_empty found none })
 
   -- if nothing is listed, no pattern occurs
   pub chained_none : k ≡ 0 → NoViolation Queue h

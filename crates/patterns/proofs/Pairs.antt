@@ -132,7 +132,7 @@ module _ {count end : ℕ} {table partner reach : List ℕ} (held : Held (tabled
     below,
     record {
       occurs = occurs a b (record { known = l; kinds = (first.holds l).adds }) (record { known = below; kinds = (second.holds below).adds }) (first.holds l).is (second.holds below);
-      lowest_number_lem = lower;
+      lowest_number = lower;
       lowest_list = λ other there. lowest (shown other there);
     },
   )

@@ -53,7 +53,7 @@ module _ {count end : ℕ} {table partner : List ℕ} (held : Held (tabled count
   pub unknown_first : {r : ℕ} → First (Shows table partner 1) count r → r < count → FirstViolation Queue h 1 (r ∷ [])
   unknown_first {r} first l = record {
     occurs = Occurs.unknown (shows_unknown l (first.holds l));
-    lowest_number_lem = λ n other less there. omega (arith, occurs_numbered there);
+    lowest_number = λ n other less there. omega (arith, occurs_numbered there);
     lowest_list = lowest;
   }
     where
@@ -141,7 +141,7 @@ module _ {count end : ℕ} {table partner : List ℕ} (held : Held (tabled count
     below,
     record {
       occurs = Occurs.twice (again_twice removes below (partnered known removes) (again.holds below));
-      lowest_number_lem = below_ruled_out 2 (omega arith) (λ m. known) (λ m. absurd (omega arith)) (λ m. absurd (omega arith));
+      lowest_number = below_ruled_out 2 (omega arith) (λ m. known) (λ m. absurd (omega arith)) (λ m. absurd (omega arith));
       lowest_list = lowest;
     },
   )
@@ -162,7 +162,7 @@ module _ {count end : ℕ} {table partner : List ℕ} (held : Held (tabled count
       → FirstViolation Queue h 3 (r ∷ (partner_at partner r - 1) ∷ [])
   early_first known once {r} first l = record {
     occurs = Occurs.early (shows_early l (first.holds l));
-    lowest_number_lem = below_ruled_out 3 (omega arith) (λ m. known) (λ m. once) (λ m. absurd (omega arith));
+    lowest_number = below_ruled_out 3 (omega arith) (λ m. known) (λ m. once) (λ m. absurd (omega arith));
     lowest_list = lowest;
   }
     where

@@ -26,7 +26,7 @@ agree_first_violation : (object : Object) {h k : History} → Agree h k → {n :
     → FirstViolation object k n listed
 agree_first_violation object a f = record {
   occurs = agree_occurs_in object a f.occurs;
-  lowest_number_lem = λ n other less there. f.lowest_number_lem n other less (agree_occurs_in object (agree_sym a) there);
+  lowest_number = λ n other less there. f.lowest_number n other less (agree_occurs_in object (agree_sym a) there);
   lowest_list = λ other there. f.lowest_list other (agree_occurs_in object (agree_sym a) there);
 }
 

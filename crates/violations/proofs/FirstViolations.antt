@@ -59,7 +59,7 @@ first_violation object h =
     go (lowest_pair (Occurs object h) (lowest_occurrence object h) (highest_number object + 1) (λ n listed o. omega (arith, occurs_numbered o)))
   where
     go : LowestPair (Occurs object h) ⊎ NoViolation object h → SomeViolation object h ⊎ NoViolation object h
-    go (inl s) = inl (s.number, s.lists.list, record { occurs = s.lists.holds; lowest_number_lem = s.none_lower; lowest_list = s.lists.none_lower })
+    go (inl s) = inl (s.number, s.lists.list, record { occurs = s.lists.holds; lowest_number = s.none_lower; lowest_list = s.lists.none_lower })
     go (inr none) = inr none
 
 -- whether a pattern occurs
@@ -77,7 +77,7 @@ pub first_violation_one : {object : Object} {h : History} {m n : ℕ} {xs ys : L
 first_violation_one {object} {h} {m} {n} {xs} {ys} f k = (same, lists (lower_total xs ys))
   where
     no_lower : {m n : ℕ} {xs ys : List ℕ} → FirstViolation object h m xs → FirstViolation object h n ys → m < n → ⊥
-    no_lower {m} {n} {xs} f k l = k.lowest_number_lem m xs l f.occurs
+    no_lower {m} {n} {xs} f k l = k.lowest_number m xs l f.occurs
 
     same : m ≡ n
     same = let not_lower : m < n → ⊥ = no_lower f k in let not_higher : n < m → ⊥ = no_lower k f in omega arith

@@ -113,7 +113,7 @@ part_verdict {object} p laws part-laws x keep (CompleteVerdict.linearization y) 
     absurd (judged_excluded object part-laws y (part_keeps p laws part-laws x.occurs keep).1)
 part_verdict {object} {h} {part} p laws part-laws {m} {n} {ys = ys} x keep (CompleteVerdict.violation y) =
     let there = part_keeps p laws part-laws x.occurs keep in
-    let not_lower : m < n → ⊥ = λ l. y.lowest_number_lem m there.0 l there.1 in
+    let not_lower : m < n → ⊥ = λ l. y.lowest_number m there.0 l there.1 in
     omega (arith, not_higher)
   where
     not_six : (object : Object) {m n : ℕ} {xs ys : List ℕ} → n < m → Occurs object h m xs → Occurs object part n ys → n ≡ 6 → ⊥
@@ -123,4 +123,4 @@ part_verdict {object} {h} {part} p laws part-laws {m} {n} {ys = ys} x keep (Comp
     not_higher : n < m → ⊥
     not_higher l =
         let there = (part_violations p n (not_six object l x.occurs y.occurs)).0 (ys, y.occurs) in
-        x.lowest_number_lem n there.0 l there.1
+        x.lowest_number n there.0 l there.1

@@ -16,7 +16,7 @@ pub data Lower : List ℕ → List ℕ → Type 0 where
 -- "The lowest number that occurs is reported. Among its occurrences the lowest list of operation numbers is taken."
 pub record FirstViolation (object : Object) (h : History) (number : ℕ) (listed : List ℕ) : Type 0 where
   pub occurs : Occurs object h number listed
-  pub lowest_number_lem : (n : ℕ) (other : List ℕ) → n < number → Occurs object h n other → ⊥
+  pub lowest_number : (n : ℕ) (other : List ℕ) → n < number → Occurs object h n other → ⊥
   pub lowest_list : (other : List ℕ) → Occurs object h number other → Lower other listed → ⊥
 
 -- a first pattern, whatever its number and list
