@@ -2,7 +2,8 @@
 use Rattle.std.specs.Prelude.{ℕ, ◌≡◌, List, [], ◌∷◌}
 use Rattle.buffer.specs.Output.{output_answer}
 use Rattle.projection.specs.Outcome.{excerpt_answer, excerpt_leaves}
-use Rattle.session.specs.Session.{open_stage, closed_stage, session_reading, begin_answer, begin_leaves, stage_begun, used_begun, feed_answer, feed_leaves, used_fed, stage_closed}
+use Rattle.session.specs.Session.{open_stage, closed_stage, session_reading, begin_answer, begin_leaves}
+use Rattle.session.specs.Session.{stage_begun, used_begun, feed_answer, feed_leaves, used_fed, stage_closed}
 use Rattle.answers.specs.Answer.{JudgeAnswers}
 
 pub record BeginAnswers (stage used : ℕ) (buffer : List ℕ) (stage' used' : ℕ) (buffer' : List ℕ) (answer : ℕ) : Type 0 where

@@ -75,7 +75,11 @@ pub record Entered (table : List ℕ) (o kind value call ret : ℕ) (table' : Li
 -- a call of remove, which says nothing of one.
 abbrev pub Told : List Record → List ℕ → ℕ → Event → ℕ → Type 0
 Told records table o return ret =
-    Entry table o (kind_by (record_of records (call_index records o)).event return) (value_by (record_of records (call_index records o)).event return) (position_of records (call_index records o)) ret
+    Entry table o
+    (kind_by (record_of records (call_index records o)).event return)
+    (value_by (record_of records (call_index records o)).event return)
+    (position_of records (call_index records o))
+    ret
 
 -- The tables hold what the first n records say: of each operation called by then its client and its call, its kind, value and
 -- return if it has returned by then, and otherwise what its call alone says.
@@ -96,7 +100,8 @@ pub record Room (count end : ℕ) (callers chains table : List ℕ) : Type 0 whe
 
 -- The tables hold one record more, r, which stands at this position.
 pub record Noted (r : Record) (at count end : ℕ) (callers chains table : List ℕ) (count' : ℕ) (callers' chains' table' : List ℕ) : Type 0 where
-  pub kept : (records : List Record) (old : List ℕ) (n : ℕ) → Regular records → end_of records ≡ end → n < length records → record_of records n ≡ r → position_of records n ≡ at
+  pub kept : (records : List Record) (old : List ℕ) (n : ℕ) → Regular records → end_of records ≡ end
+      → n < length records → record_of records n ≡ r → position_of records n ≡ at
       → Filled records old n count callers chains table → Filled records old (n + 1) count' callers' chains' table'
 
 -- A log that is readable, of so many records.

@@ -56,7 +56,12 @@ fn try_fate(
     o: usize,
     order: &mut Numbers,
 ) -> Ended
-    requires { Held (tabled count end table.old) × Lone (tabled count end table.old) × (length table.old ≡ table_length) × Partners table.old count partner.old × Is (tabled count end table.old) no_kind o × (length order.old ≡ max_records) }
+    requires { Held (tabled count end table.old)
+        × Lone (tabled count end table.old)
+        × (length table.old ≡ table_length)
+        × Partners table.old count partner.old
+        × Is (tabled count end table.old) no_kind o
+        × (length order.old ≡ max_records) }
     ensures { FateTried (tabled count end table.old) result order.new }
 {
     let a = soonest_free(table, count, end, partner);
@@ -88,7 +93,11 @@ pub fn decide(
     list: &mut Numbers,
     order: &mut Numbers,
 ) -> Decision
-    requires { Held (tabled count end table.old) × Lone (tabled count end table.old) × (length table.old ≡ table_length) × (length list.old ≡ max_records) × (length order.old ≡ max_records) }
+    requires { Held (tabled count end table.old)
+        × Lone (tabled count end table.old)
+        × (length table.old ≡ table_length)
+        × (length list.old ≡ max_records)
+        × (length order.old ≡ max_records) }
     ensures { DecidedBy (tabled count end table.old) result list.new order.new }
 {
     let mut partner = [0u32; MAX_RECORDS];

@@ -74,7 +74,10 @@ pub(crate) fn blocked_by(
     reach: &Numbers,
     a: usize,
 ) -> usize
-    requires { Held (tabled count end table.now) × Partners table.now count partner.now × Reaching (tabled count end table.now) reach.now × Is (tabled count end table.now) add a }
+    requires { Held (tabled count end table.now)
+        × Partners table.now count partner.now
+        × Reaching (tabled count end table.now) reach.now
+        × Is (tabled count end table.now) add a }
     ensures { First (Blocks table.now partner.now reach.now a) count result }
 {
     let mut b = 0;
@@ -108,7 +111,10 @@ fn shows_blocking(
     a: usize,
     pattern: u32,
 ) -> bool
-    requires { Held (tabled count end table.now) × Reaching (tabled count end table.now) reach.now × SoonestTable (tabled count end table.now) partner.now 0 soonest.now × (a < count) }
+    requires { Held (tabled count end table.now)
+        × Reaching (tabled count end table.now) reach.now
+        × SoonestTable (tabled count end table.now) partner.now 0 soonest.now
+        × (a < count) }
     ensures { Decides (Blocking table.now count partner.now reach.now pattern a) result }
 {
     if kind_of(table, a) != ADD {

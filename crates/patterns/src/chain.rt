@@ -66,7 +66,11 @@ fn chain(
     e: usize,
     list: &mut Numbers,
 ) -> usize
-    requires { Held (tabled count end table.now) × RanksNoted (tabled count end table.now) noted.now × NextTable end noted.now 0 next.now × Is (tabled count end table.now) empty_remove e × (length list.old ≡ max_records) }
+    requires { Held (tabled count end table.now)
+        × RanksNoted (tabled count end table.now) noted.now
+        × NextTable end noted.now 0 next.now
+        × Is (tabled count end table.now) empty_remove e
+        × (length list.old ≡ max_records) }
     ensures { Chained (tabled count end table.now) e result list.new }
 {
     let until = return_of(table, e);

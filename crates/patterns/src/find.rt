@@ -83,7 +83,13 @@ fn find_pair(
     pattern: u32,
     list: &mut Numbers,
 ) -> usize
-    requires { Held (tabled count end table.now) × Partners table.now count partner.now × Unsigned table.now count partner.now × Reaching (tabled count end table.now) reach.now × SoonestTable (tabled count end table.now) partner.now 0 soonest.now × InTurn table.now count partner.now reach.now pattern × (length list.old ≡ max_records) }
+    requires { Held (tabled count end table.now)
+        × Partners table.now count partner.now
+        × Unsigned table.now count partner.now
+        × Reaching (tabled count end table.now) reach.now
+        × SoonestTable (tabled count end table.now) partner.now 0 soonest.now
+        × InTurn table.now count partner.now reach.now pattern
+        × (length list.old ≡ max_records) }
     ensures { Paired (tabled count end table.now) table.now partner.now reach.now pattern result list.new }
 {
     let a = first_blocking(table, count, end, partner, reach, soonest, pattern);
@@ -110,7 +116,12 @@ pub fn find_cause(
     reach: &Numbers,
     list: &mut Numbers,
 ) -> Finding
-    requires { Held (tabled count end table.now) × Partners table.now count partner.now × Unsigned table.now count partner.now × Reaching (tabled count end table.now) reach.now × (NoViolation Queue (tabled count end table.now) → ⊥) × (length list.old ≡ max_records) }
+    requires { Held (tabled count end table.now)
+        × Partners table.now count partner.now
+        × Unsigned table.now count partner.now
+        × Reaching (tabled count end table.now) reach.now
+        × (NoViolation Queue (tabled count end table.now) → ⊥)
+        × (length list.old ≡ max_records) }
     ensures { PatternListed (tabled count end table.now) result.verdict result.listed list.new }
 {
     let mut soonest = [0u32; POSITIONS];

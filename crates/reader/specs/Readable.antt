@@ -8,7 +8,8 @@ use Rattle.record.specs.declared.record.Event.{Event}
 use Rattle.record.specs.declared.record.Event.TheVariants.{CallAdd, CallRemove, ReturnAdd, ReturnRemove}
 use Rattle.record.specs.declared.record.Record.{Record}
 use Rattle.record.specs.declared.record.Decoded.TheVariants.{Found}
-use Rattle.reader.specs.Log.{log_version, header_length, max_records, max_length, add_call, remove_call, count_field, is_call, leaves, Reading, readable, refused, fault, encode_log}
+use Rattle.reader.specs.Log.{log_version, header_length, max_records, max_length, add_call, remove_call, count_field}
+use Rattle.reader.specs.Log.{is_call, leaves, Reading, readable, refused, fault, encode_log}
 
 -- A log that is read has at most 1,024 records, and a refusal a number from 1 to 63 and an index of at most 1,024. The bound on
 -- numbers leaves room for refusals that are not there yet; which ones a log is given is said by `read_log`.

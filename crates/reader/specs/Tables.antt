@@ -4,7 +4,8 @@ use Rattle.std.specs.Prelude.{ℕ, suc, ◌+◌, ◌*◌, ◌/◌, ◌%◌, ◌�
 use Rattle.record.specs.Refusal.{wrong_bytes, wrong_version, too_many_records, tick_fell}
 use Rattle.record.specs.declared.record.Record.{Record}
 use Rattle.map.specs.Map.{Latest, Linked, NarrowLinked}
-use Rattle.reader.specs.Log.{log_version, header_length, max_records, count_field, remove_call, leaves, Reading, readable, refused, added_values, last_tick, operations, second_remove, event_fault, fault, scan}
+use Rattle.reader.specs.Log.{log_version, header_length, max_records, count_field, remove_call, leaves, Reading, readable}
+use Rattle.reader.specs.Log.{refused, added_values, last_tick, operations, second_remove, event_fault, fault, scan}
 use Rattle.reader.specs.Feed.{fault_behind}
 use Rattle.reader.specs.declared.clients.Standing.{Standing}
 use Rattle.reader.specs.declared.scan.Progress.{Progress}

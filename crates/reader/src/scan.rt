@@ -122,7 +122,9 @@ fn admit(
     chains: &mut Chains,
 ) -> Progress
     requires { (index < max_records) × Room p (tables clients.old heads.old links.old codes.old values.old chains.old) × Stands r index p clients.old codes.old s }
-    ensures { Admitted r next index p (tables clients.old heads.old links.old codes.old values.old chains.old) result (tables clients.new heads.new links.new codes.new values.new chains.new) }
+    ensures { Admitted r next index p
+        (tables clients.old heads.old links.old codes.old values.old chains.old)
+        result (tables clients.new heads.new links.new codes.new values.new chains.new) }
 {
     let client = r.client;
     let entry = s.entry;
@@ -200,7 +202,9 @@ fn read_record(
     chains: &mut Chains,
 ) -> Step
     requires { (index < max_records) × Room p (tables clients.old heads.old links.old codes.old values.old chains.old) }
-    ensures { Stepped log.now index p (tables clients.old heads.old links.old codes.old values.old chains.old) result (tables clients.new heads.new links.new codes.new values.new chains.new) }
+    ensures { Stepped log.now index p
+        (tables clients.old heads.old links.old codes.old values.old chains.old)
+        result (tables clients.new heads.new links.new codes.new values.new chains.new) }
 {
     let at = p.at;
     match decode_at(log, at) {

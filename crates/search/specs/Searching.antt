@@ -143,7 +143,8 @@ pub record Queues (kind o : ℕ) (s : Stand) (queue : List ℕ) (t : Stand) (que
 -- The operation that waits at index i has been placed. It has to be the first of those that wait that fits.
 pub record Placed (h : History) (s : Stand) (i : ℕ) (waiting queue list : List ℕ) (t : Stand) (waiting' queue' list' : List ℕ) : Type 0 where
   pub placed_is : t.placed ≡ s.placed + 1
-  pub stands : (reach limit : List ℕ) (cap : ℕ) → Reaching h reach → Limits h limit → Single h → Cap h limit (order_in s list) cap → Ready h reach limit s waiting queue list
+  pub stands : (reach limit : List ℕ) (cap : ℕ) → Reaching h reach → Limits h limit → Single h
+      → Cap h limit (order_in s list) cap → Ready h reach limit s waiting queue list
       → First (λ j. Fit h reach queue s cap (get_or waiting j 0)) s.waiting i → Stands h reach limit t waiting' queue' list'
 
 -- What the search comes to: a legal order as the judge lists it, found as the search goes, or the tables do not serve, since some pattern occurs.

@@ -32,7 +32,11 @@ pub fn find_order(
     reach: &Numbers,
     list: &mut Numbers,
 ) -> Ended
-    requires { Held (tabled count end table.now) × Partners table.now count partner.now × Single (tabled count end table.now) × Reaching (tabled count end table.now) reach.now × (length list.old ≡ max_records) }
+    requires { Held (tabled count end table.now)
+        × Partners table.now count partner.now
+        × Single (tabled count end table.now)
+        × Reaching (tabled count end table.now) reach.now
+        × (length list.old ≡ max_records) }
     ensures { Ordered (tabled count end table.now) result list.new }
 {
     let mut gaps = [0u32; POSITIONS];

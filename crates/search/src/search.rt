@@ -88,7 +88,11 @@ fn admit_next(
     a: Admission,
     waiting: &mut Table,
 ) -> Admission
-    requires { Held (tabled count end table.now) × Reaching (tabled count end table.now) reach.now × Room (tabled count end table.now) a.next a.waiting waiting.old × (a.next < count) × (call_at table.now a.next < a.least) }
+    requires { Held (tabled count end table.now)
+        × Reaching (tabled count end table.now) reach.now
+        × Room (tabled count end table.now) a.next a.waiting waiting.old
+        × (a.next < count)
+        × (call_at table.now a.next < a.least) }
     ensures { AdmittedOne (tabled count end table.now) a waiting.old result waiting.new }
 {
     let next = a.next;
@@ -254,7 +258,14 @@ fn place(
     queue: &mut Table,
     list: &mut Numbers,
 ) -> Stand
-    requires { Held (tabled count end table.now) × Room (tabled count end table.now) s.next s.waiting waiting.old × (i < s.waiting) × (s.head ≤ s.tail) × (s.tail ≤ s.placed) × (s.placed < max_records) × (length queue.old ≡ max_records) × (length list.old ≡ max_records) }
+    requires { Held (tabled count end table.now)
+        × Room (tabled count end table.now) s.next s.waiting waiting.old
+        × (i < s.waiting)
+        × (s.head ≤ s.tail)
+        × (s.tail ≤ s.placed)
+        × (s.placed < max_records)
+        × (length queue.old ≡ max_records)
+        × (length list.old ≡ max_records) }
     ensures { Placed (tabled count end table.now) s i waiting.old queue.old list.old result waiting.new queue.new list.new }
 {
     let o = waiting[i];
@@ -274,7 +285,12 @@ pub(crate) fn search(
     bound: &Bounds,
     list: &mut Numbers,
 ) -> Ended
-    requires { Held (tabled count end table.now) × Reaching (tabled count end table.now) reach.now × Single (tabled count end table.now) × Limits (tabled count end table.now) limit.now × BoundTable count end limit.now 0 bound.now × (length list.old ≡ max_records) }
+    requires { Held (tabled count end table.now)
+        × Reaching (tabled count end table.now) reach.now
+        × Single (tabled count end table.now)
+        × Limits (tabled count end table.now) limit.now
+        × BoundTable count end limit.now 0 bound.now
+        × (length list.old ≡ max_records) }
     ensures { Ends (tabled count end table.now) reach.now limit.now result list.new }
 {
     let mut waiting = [0u16; MAX_RECORDS];

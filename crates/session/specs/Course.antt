@@ -43,8 +43,10 @@ if_accepted (Refused number index) bytes = []
 -- were accepted. (Sheet and excerpt alter nothing.)
 pub data Since (buffer : List ℕ) : List (List ℕ) → Lent → Type 0 where
   just_begun : header_length ≤ length buffer → Since buffer [] (begun buffer)
-  then_fed : {accepted : List (List ℕ)} {s : Lent} → Since buffer accepted s → (bytes : List ℕ) → Bytes bytes → Since buffer (accepted ++ if_accepted (answer_to s bytes) bytes) (after_feed s bytes)
-  then_closed : {accepted : List (List ℕ)} {s : Lent} → Since buffer accepted s → {sheet left : List ℕ} (answer : Verdict) → Closes s sheet answer left → Since buffer accepted (after_close s answer)
+  then_fed : {accepted : List (List ℕ)} {s : Lent} → Since buffer accepted s → (bytes : List ℕ) → Bytes bytes
+      → Since buffer (accepted ++ if_accepted (answer_to s bytes) bytes) (after_feed s bytes)
+  then_closed : {accepted : List (List ℕ)} {s : Lent} → Since buffer accepted s → {sheet left : List ℕ} (answer : Verdict)
+      → Closes s sheet answer left → Since buffer accepted (after_close s answer)
 
 -- the log of fed records: the version, how many they are, and their bytes one behind the other
 unfoldable pub joined : List (List ℕ) → List ℕ

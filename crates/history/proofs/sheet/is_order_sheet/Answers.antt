@@ -4,7 +4,6 @@ use borrow.Author.Tests.{lt-ltb}
 use Rattle.history.proofs.Forms.{sheet_other_version, sheet_other_verdict, sheet_by_length}
 use Rattle.history.proofs.sheet.is_order_sheet.Goals as goal
 
--- `is_order_sheet` meets its contract: the tests of a sheet's form, in their order.
 pub returns-then-sheet-lt-SHEET_HEADER : goal.returns-then-sheet-lt-SHEET_HEADER
 returns-then-sheet-lt-SHEET_HEADER c = rw (lt-ltb _ _ c.if-sheet-lt-SHEET_HEADER.true) refl
 

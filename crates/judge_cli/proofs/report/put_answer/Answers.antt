@@ -5,10 +5,10 @@ use Rattle.judge_cli.specs.Writing.{answer_line}
 use Rattle.judge_cli.proofs.report.put_answer.Goals as goal
 
 pub put_order-requires : goal.put_order-requires
-put_order-requires c = (rw c.in-Order.is at c.requires)
+put_order-requires c = rw c.in-Order.is at c.requires
 
 pub put_pattern-requires : goal.put_pattern-requires
-put_pattern-requires c = (rw c.in-Pattern.is at c.requires)
+put_pattern-requires c = rw c.in-Pattern.is at c.requires
 
 pub put_refusal-requires : goal.put_refusal-requires
 put_refusal-requires c = (rw c.in-Refused.is at c.requires).1

@@ -8,30 +8,13 @@ use Rattle.map.proofs.narrow.find_narrow.Goals as goal
 pub loop-next-init : goal.loop-next-init
 loop-next-init c = rw c.narrow_slot_of.ensures.0 (unmet_starts (c.requires.chained.heads _ (omega (arith, c.narrow_slot_of.ensures.0, c.narrow_slot_of.ensures.1))))
 
-pub bounds-keys-i : goal.bounds-keys-i
-bounds-keys-i c =
-    let in_use : c.loop-next.next - 1 < c.args.count = omega (arith, c.loop-next.invariant.within, c.loop-next-test.true) in
-    let small : c.loop-next.next - 1 < map_size = omega (arith, in_use, c.requires.within) in
-    small
-
 pub returns-then-keys-i : goal.returns-then-keys-i
 returns-then-keys-i c = unmet_hit c.loop-next.invariant c.loop-next-test.true c.if-keys-i.true
-
-pub bounds-links-i : goal.bounds-links-i
-bounds-links-i c =
-    let in_use : c.loop-next.next - 1 < c.args.count = omega (arith, c.loop-next.invariant.within, c.loop-next-test.true) in
-    let small : c.loop-next.next - 1 < map_size = omega (arith, in_use, c.requires.within) in
-    small
-
-pub loop-next-smaller : goal.loop-next-smaller
-loop-next-smaller c =
-    let in_use : c.loop-next.next - 1 < c.args.count = omega (arith, c.loop-next.invariant.within, c.loop-next-test.true) in
-    omega (arith, ((c.requires.chained.links _ (in_use))).within, c.loop-next-test.true)
 
 pub loop-next-preserved : goal.loop-next-preserved
 loop-next-preserved c =
     let in_use : c.loop-next.next - 1 < c.args.count = omega (arith, c.loop-next.invariant.within, c.loop-next-test.true) in
-    unmet_miss c.loop-next.invariant c.loop-next-test.true c.if-keys-i.false ((c.requires.chained.links _ (in_use)))
+    unmet_miss c.loop-next.invariant c.loop-next-test.true c.if-keys-i.false (c.requires.chained.links _ in_use)
 
 pub returns : goal.returns
 returns c = unmet_none c.loop-next.invariant c.loop-next-test.false

@@ -9,11 +9,9 @@ use Rattle.patterns.proofs.blocked.shows_blocking.Goals as goal
 
 pub returns-then-end-returned : goal.returns-then-end-returned
 returns-then-end-returned c =
-    let is : Is (tabled c.args.count c.args.end c.args.table.now) add c.args.a = record { known = c.requires.3; kinds = rw c.kind_of.ensures at c.if-kind_of-ne-ADD.false } in
-    pending_blocks_none _ _ c.requires.0 c.requires.1 (is) (rw c.return_of-returned.ensures at c.if-end-returned.true)
+    pending_blocks_none _ _ c.requires.0 c.requires.1 (record { known = c.requires.3; kinds = rw c.kind_of.ensures at c.if-kind_of-ne-ADD.false }) (rw c.return_of-returned.ensures at c.if-end-returned.true)
 
 pub returns : goal.returns
 returns c =
-    let is : Is (tabled c.args.count c.args.end c.args.table.now) add c.args.a = record { known = c.requires.3; kinds = rw c.kind_of.ensures at c.if-kind_of-ne-ADD.false } in
-    decided_blocking _ _ c.requires.0 c.requires.1 (is) (sym c.pattern_of.ensures ∙ c.if-pattern_of-pattern.false)
+    decided_blocking _ _ c.requires.0 c.requires.1 (record { known = c.requires.3; kinds = rw c.kind_of.ensures at c.if-kind_of-ne-ADD.false }) (sym c.pattern_of.ensures ∙ c.if-pattern_of-pattern.false)
     (rw c.return_of-returned.ensures (c.requires.2.returns _ (omega arith) (omega arith)))

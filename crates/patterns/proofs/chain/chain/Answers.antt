@@ -1,14 +1,36 @@
 -- `chain` meets its contract. The invariant of both loops: e and the first links of its chain are listed, and the chain goes on at the gap; the
 -- values whose adds return below `from` were tried for it, and `best` is the highest rank among them.
-use Prim.Native.Nat.{◌+◌, ◌<◌}
+use Prim.Native.Nat.{ℕ, ◌+◌, ◌≤◌, ◌<◌}
+use mathlib.Core.List.{List}
 use native.Mathlib.Omega.{arith}
 use lib.ListN.{get_or}
-use Rattle.history.specs.Table.{tabled}
+use Rattle.history.specs.History.{History, empty_remove}
+use Rattle.violations.specs.Violations.{Is}
+use Rattle.matching.specs.Held.{Held}
+use Rattle.matching.specs.Returns.{ReturnsNoted}
+use Rattle.matching.proofs.Numbers.{Larger}
 use Rattle.matching.proofs.Returning.{Highest}
-use Rattle.patterns.specs.Chains.{NextNoted}
+use Rattle.patterns.specs.Chains.{NextNoted, NextTable}
 use Rattle.patterns.proofs.Chaining.{linked_starts, linked_ends, room_left, linked_more, none_covers}
-use Rattle.patterns.proofs.Furthering.{tried_none, tried_on, tried_more, tried_all, gap_uncovered, furthest_found}
+use Rattle.patterns.proofs.Furthering.{Tried, tried_none, tried_on, tried_more, tried_all, gap_uncovered, furthest_found}
 use Rattle.patterns.proofs.chain.chain.Goals as goal
+
+-- What holds at a gap of e that is not the last, and of the adds that were tried for it.
+module _ {h : History} {noted next : List ℕ} {e gap from best : ℕ}
+    (held : Held h) (is : Is h empty_remove e) (before : gap < h.ret e) (nexts : NextTable h.end noted 0 next) (tried : Tried h noted gap from best) where
+  inside : gap + 1 < h.end
+  inside = omega (arith, before, held.lawful.returned _ is.known (omega (arith, is.kinds)))
+
+  next_at : NextNoted h.end noted from (get_or next from 0)
+  next_at = nexts.nexts from (omega arith) (omega (arith, inside, tried.returned))
+
+  -- the next add to return has done so by the gap, and is tried too
+  one_more : get_or next from 0 ≤ gap → {best' : ℕ} → Larger best (get_or noted (get_or next from 0) 0) best' → Tried h noted gap (get_or next from 0 + 1) best'
+  one_more = tried_more tried (omega (arith, inside)) next_at
+
+  -- it has not, so that all were tried
+  highest : gap < get_or next from 0 → {rank : List ℕ} → ReturnsNoted h rank h.count noted → Highest h rank (gap + 1) best
+  highest l = tried_all tried (omega (arith, inside)) next_at l
 
 pub gaps-init : goal.gaps-init
 gaps-init c = (rw c.call_of-gap.ensures (linked_starts c.args.e c.args.list.now c.requires.4), tried_none)
@@ -16,55 +38,25 @@ gaps-init c = (rw c.call_of-gap.ensures (linked_starts c.args.e c.args.list.now 
 pub loop-listed-init : goal.loop-listed-init
 loop-listed-init c = c.gaps.invariant
 
-pub bounds-next-from : goal.bounds-next-from
-bounds-next-from c =
-    let in-gap : c.gaps.gap < ((tabled c.args.count c.args.end c.args.table.now)).ret c.args.e = rw c.return_of-until.ensures at c.gaps-test.true in
-    let inside : c.gaps.gap + 1 < ((tabled c.args.count c.args.end c.args.table.now)).end = let is = c.requires.3 in omega (arith, (in-gap), c.requires.0.lawful.returned _ is.known (omega (arith, is.kinds))) in
-    omega (arith, inside, c.loop-listed.invariant.1.returned)
-
-pub bounds-noted-returned : goal.bounds-noted-returned
-bounds-noted-returned c =
-    let in-gap : c.gaps.gap < ((tabled c.args.count c.args.end c.args.table.now)).ret c.args.e = rw c.return_of-until.ensures at c.gaps-test.true in
-    let inside : c.gaps.gap + 1 < ((tabled c.args.count c.args.end c.args.table.now)).end = let is = c.requires.3 in omega (arith, (in-gap), c.requires.0.lawful.returned _ is.known (omega (arith, is.kinds))) in
-    omega (arith, inside)
-
-pub loop-listed-smaller : goal.loop-listed-smaller
-loop-listed-smaller c =
-    let in-gap : c.gaps.gap < ((tabled c.args.count c.args.end c.args.table.now)).ret c.args.e = rw c.return_of-until.ensures at c.gaps-test.true in
-    let inside : c.gaps.gap + 1 < ((tabled c.args.count c.args.end c.args.table.now)).end = let is = c.requires.3 in omega (arith, (in-gap), c.requires.0.lawful.returned _ is.known (omega (arith, is.kinds))) in
-    let next-at : NextNoted c.args.end c.args.noted.now c.loop-listed.from ((get_or c.args.next.now c.loop-listed.from 0)) = c.requires.2.nexts _ (omega arith) (omega (arith, inside, c.loop-listed.invariant.1.returned)) in
-    omega (arith, inside, (next-at).from)
-
 pub loop-listed-preserved : goal.loop-listed-preserved
 loop-listed-preserved c =
-    let in-gap : c.gaps.gap < ((tabled c.args.count c.args.end c.args.table.now)).ret c.args.e = rw c.return_of-until.ensures at c.gaps-test.true in
-    let inside : c.gaps.gap + 1 < ((tabled c.args.count c.args.end c.args.table.now)).end = let is = c.requires.3 in omega (arith, (in-gap), c.requires.0.lawful.returned _ is.known (omega (arith, is.kinds))) in
-    let next-at : NextNoted c.args.end c.args.noted.now c.loop-listed.from ((get_or c.args.next.now c.loop-listed.from 0)) = c.requires.2.nexts _ (omega arith) (omega (arith, inside, c.loop-listed.invariant.1.returned)) in
-    let more = tried_more c.loop-listed.invariant.1 (omega (arith, inside)) (next-at) c.if-gap-returned.false c.max-best.ensures in
-    (c.loop-listed.invariant.0, more)
-
-pub bounds-list-listed : goal.bounds-list-listed
-bounds-list-listed c =
-    let in-gap : c.gaps.gap < ((tabled c.args.count c.args.end c.args.table.now)).ret c.args.e = rw c.return_of-until.ensures at c.gaps-test.true in
-    (room_left c.loop-listed.invariant.0 (in-gap) c.requires.0 c.requires.3)
+    let before = rw c.return_of-until.ensures at c.gaps-test.true in
+    (c.loop-listed.invariant.0, one_more c.requires.0 c.requires.3 before c.requires.2 c.loop-listed.invariant.1 c.if-gap-returned.false c.max-best.ensures)
 
 pub gaps-preserved : goal.gaps-preserved
 gaps-preserved c =
-    let in-gap : c.gaps.gap < ((tabled c.args.count c.args.end c.args.table.now)).ret c.args.e = rw c.return_of-until.ensures at c.gaps-test.true in
-    let inside : c.gaps.gap + 1 < ((tabled c.args.count c.args.end c.args.table.now)).end = let is = c.requires.3 in omega (arith, (in-gap), c.requires.0.lawful.returned _ is.known (omega (arith, is.kinds))) in
-    let next-at : NextNoted c.args.end c.args.noted.now c.loop-listed.from ((get_or c.args.next.now c.loop-listed.from 0)) = c.requires.2.nexts _ (omega arith) (omega (arith, inside, c.loop-listed.invariant.1.returned)) in
-    let highest : c.gaps.gap < ((get_or c.args.next.now c.loop-listed.from 0)) → Highest ((tabled c.args.count c.args.end c.args.table.now)) c.requires.1.rank (c.gaps.gap + 1) c.loop-listed.best = λ l. tried_all c.loop-listed.invariant.1 (omega (arith, inside)) (next-at) l c.requires.1.returns in
-    let furthest = furthest_found c.requires.0 c.requires.1 (highest c.if-gap-returned.true) c.if-best-gap.false in
-    (linked_more c.loop-listed.invariant.0 (in-gap) ((room_left c.loop-listed.invariant.0 (in-gap) c.requires.0 c.requires.3)) furthest, tried_on c.loop-listed.invariant.1 c.if-best-gap.false)
+    let (linked, tried) = c.loop-listed.invariant in
+    let before = rw c.return_of-until.ensures at c.gaps-test.true in
+    let all = highest c.requires.0 c.requires.3 before c.requires.2 tried c.if-gap-returned.true c.requires.1.returns in
+    let furthest = furthest_found c.requires.0 c.requires.1 all c.if-best-gap.false in
+    (linked_more linked before (room_left linked before c.requires.0 c.requires.3) furthest, tried_on tried c.if-best-gap.false)
 
 pub returns-after-gaps : goal.returns-after-gaps
 returns-after-gaps c = linked_ends c.gaps.invariant.0 (rw c.return_of-until.ensures at c.gaps-test.false)
 
 pub returns-then-best-gap : goal.returns-then-best-gap
 returns-then-best-gap c =
-    let in-gap : c.gaps.gap < ((tabled c.args.count c.args.end c.args.table.now)).ret c.args.e = rw c.return_of-until.ensures at c.gaps-test.true in
-    let inside : c.gaps.gap + 1 < ((tabled c.args.count c.args.end c.args.table.now)).end = let is = c.requires.3 in omega (arith, (in-gap), c.requires.0.lawful.returned _ is.known (omega (arith, is.kinds))) in
-    let next-at : NextNoted c.args.end c.args.noted.now c.loop-listed.from ((get_or c.args.next.now c.loop-listed.from 0)) = c.requires.2.nexts _ (omega arith) (omega (arith, inside, c.loop-listed.invariant.1.returned)) in
-    let highest : c.gaps.gap < ((get_or c.args.next.now c.loop-listed.from 0)) → Highest ((tabled c.args.count c.args.end c.args.table.now)) c.requires.1.rank (c.gaps.gap + 1) c.loop-listed.best = λ l. tried_all c.loop-listed.invariant.1 (omega (arith, inside)) (next-at) l c.requires.1.returns in
-    let uncovered = gap_uncovered c.requires.0 c.requires.1 (highest c.if-gap-returned.true) c.if-best-gap.true in
-    none_covers c.loop-listed.invariant.0 (in-gap) uncovered
+    let (linked, tried) = c.loop-listed.invariant in
+    let before = rw c.return_of-until.ensures at c.gaps-test.true in
+    let all = highest c.requires.0 c.requires.3 before c.requires.2 tried c.if-gap-returned.true c.requires.1.returns in
+    none_covers linked before (gap_uncovered c.requires.0 c.requires.1 all c.if-best-gap.true)

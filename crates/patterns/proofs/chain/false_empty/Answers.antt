@@ -23,7 +23,7 @@ loop-e-init c = (c.requires.2, first_starts _)
 
 pub chain-listed-requires : goal.chain-listed-requires
 chain-listed-requires c =
-    let is : Is ((tabled c.args.count c.args.end c.args.table.now)) empty_remove c.loop-e.e = record { known = c.loop-e-test.true; kinds = rw c.kind_of.ensures at c.if-kind_of-eq-EMPTY_REMOVE.true } in (
+    let is : Is (tabled c.args.count c.args.end c.args.table.now) empty_remove c.loop-e.e = record { known = c.loop-e-test.true; kinds = rw c.kind_of.ensures at c.if-kind_of-eq-EMPTY_REMOVE.true } in (
       c.requires.0,
       record {
         reach = _;
@@ -39,8 +39,8 @@ chain-listed-requires c =
 
 pub returns-then-listed-gt0 : goal.returns-then-listed-gt0
 returns-then-listed-gt0 c =
-    let is : Is ((tabled c.args.count c.args.end c.args.table.now)) empty_remove c.loop-e.e = record { known = c.loop-e-test.true; kinds = rw c.kind_of.ensures at c.if-kind_of-eq-EMPTY_REMOVE.true } in
-    first_chained c.loop-e.invariant.1 (is) c.chain-listed.ensures c.if-listed-gt0.true
+    let is : Is (tabled c.args.count c.args.end c.args.table.now) empty_remove c.loop-e.e = record { known = c.loop-e-test.true; kinds = rw c.kind_of.ensures at c.if-kind_of-eq-EMPTY_REMOVE.true } in
+    first_chained c.loop-e.invariant.1 is c.chain-listed.ensures c.if-listed-gt0.true
 
 pub loop-e-preserved : goal.loop-e-preserved
 loop-e-preserved c = let inv = c.loop-e.invariant in

@@ -12,18 +12,6 @@ use Rattle.patterns.proofs.chain.fill_ranks.Goals.{then-kind_of-eq-ADD, else-kin
 pub loop-a-init : goal.loop-a-init
 loop-a-init c = (omega arith, record { sized = c.requires.2; ranks = λ a l. absurd (omega arith) })
 
-pub overflow_mul-rank : goal.overflow_mul-rank
-overflow_mul-rank c =
-    let reach-small : reach_at c.args.reach.now c.loop-a.a ≤ max_positions = let kind = rw c.kind_of.ensures at c.if-kind_of-eq-ADD.true in
-    omega (arith, reach_within c.requires.0 c.requires.1 (record { known = c.loop-a-test.true; kinds = kind }), c.requires.0.short) in
-    omega (arith, reach-small)
-
-pub overflow_add-rank : goal.overflow_add-rank
-overflow_add-rank c =
-    let reach-small : reach_at c.args.reach.now c.loop-a.a ≤ max_positions = let kind = rw c.kind_of.ensures at c.if-kind_of-eq-ADD.true in
-    omega (arith, reach_within c.requires.0 c.requires.1 (record { known = c.loop-a-test.true; kinds = kind }), c.requires.0.short) in
-    omega (arith, reach-small)
-
 pub loop-a-preserved : goal.loop-a-preserved
 loop-a-preserved c = (
   omega arith,

@@ -5,7 +5,6 @@ use Rattle.matching.specs.Matching.{partner_at}
 use Rattle.patterns.proofs.Finding.{paired_none, paired_stuck_at, paired_overtaken_at, blocked_known, overtaken_partnered}
 use Rattle.patterns.proofs.find.find_pair.Goals as goal
 
--- `find_pair` meets its contract.
 pub first_blocking-a-requires : goal.first_blocking-a-requires
 first_blocking-a-requires c = (c.requires.0, c.requires.3, c.requires.4)
 
@@ -16,15 +15,8 @@ returns-then-count-a c = paired_none c.requires.0 c.requires.1 c.requires.2 c.re
 pub blocked_by-b-requires : goal.blocked_by-b-requires
 blocked_by-b-requires c = (c.requires.0, c.requires.1, c.requires.3, record { known = c.if-count-a.false; kinds = (c.first_blocking-a.ensures.holds c.if-count-a.false).adds })
 
-pub bounds-partner-b : goal.bounds-partner-b
-bounds-partner-b c =
-    let known : (c.blocked_by-b.result < c.args.count) × (0 < partner_at c.args.partner.now c.blocked_by-b.result) = blocked_known c.requires.0 c.requires.1 c.requires.2 c.requires.3 c.first_blocking-a.ensures c.if-count-a.false c.blocked_by-b.ensures in
-    omega (arith, (known).0, c.requires.0.few)
-
 pub overflow_sub-list : goal.overflow_sub-list
-overflow_sub-list c =
-    let known : (c.blocked_by-b.result < c.args.count) × (0 < partner_at c.args.partner.now c.blocked_by-b.result) = blocked_known c.requires.0 c.requires.1 c.requires.2 c.requires.3 c.first_blocking-a.ensures c.if-count-a.false c.blocked_by-b.ensures in
-    (known).1
+overflow_sub-list c = (blocked_known c.requires.0 c.requires.1 c.requires.2 c.requires.3 c.first_blocking-a.ensures c.if-count-a.false c.blocked_by-b.ensures).1
 
 pub returns-then-pattern-eq-STUCK : goal.returns-then-pattern-eq-STUCK
 returns-then-pattern-eq-STUCK c = paired_stuck_at c.requires.0 c.requires.1 c.requires.2 c.requires.3 c.args.list.now c.requires.6

@@ -4,7 +4,6 @@ use mathlib.Core.Path.{refl}
 use borrow.Author.Tests.{eq-eqb, ne_eqb}
 use Rattle.projection.proofs.measure.if_marked.Goals as goal
 
--- `if_marked` meets its contract.
 pub returns-then-mark-eq-MARKED : goal.returns-then-mark-eq-MARKED
 returns-then-mark-eq-MARKED c = (rw (eq-eqb _ _ c.if-mark-eq-MARKED.true) refl, omega arith)
 

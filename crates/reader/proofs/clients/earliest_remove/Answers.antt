@@ -11,7 +11,7 @@ pub loop-i-init : goal.loop-i-init
 loop-i-init c = (omega arith, least_none _ _ _)
 
 pub index_of-index-requires : goal.index_of-index-requires
-index_of-index-requires c = (c.requires.1 _ c.loop-i-test.true)
+index_of-index-requires c = c.requires.1 _ c.loop-i-test.true
 
 pub loop-i-preserved : goal.loop-i-preserved
 loop-i-preserved c =

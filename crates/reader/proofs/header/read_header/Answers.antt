@@ -2,7 +2,6 @@
 use borrow.Author.Tests.{lt-ltb, le-ltb, eq-eqb, ne_eqb}
 use Rattle.reader.proofs.header.read_header.Goals as goal
 
--- `read_header` meets its contract: at each return the tests that led there say which case of `header_of` holds.
 pub returns-then-log-lt-HEADER : goal.returns-then-log-lt-HEADER
 returns-then-log-lt-HEADER c = rw (lt-ltb _ _ c.if-log-lt-HEADER.true)
 

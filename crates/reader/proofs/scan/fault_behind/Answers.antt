@@ -4,7 +4,6 @@ use native.Mathlib.Omega.{arith}
 use Rattle.reader.proofs.Scanning.{behind_other, behind_malformed, behind_fault}
 use Rattle.reader.proofs.scan.fault_behind.Goals as goal
 
--- `fault_behind` meets its contract: at each return the tests that led there say which case of `fault_behind` holds.
 pub returns-then-bytes-eq0 : goal.returns-then-bytes-eq0
 returns-then-bytes-eq0 c = behind_other (λ e. omega (arith, c.if-bytes-eq0.true))
 

@@ -3,7 +3,6 @@ use Rattle.record.specs.Frame.{frame_at}
 use borrow.Author.Tests.{le-leb, lt-leb, lt-ltb, le-ltb, eq-eqb, ne_eqb}
 use Rattle.record.proofs.frame.frame_at.Goals as goal
 
--- `frame_at` meets its contract: at each return the tests that led there say which case of `frame_at` holds.
 pub returns-then-log-at : goal.returns-then-log-at
 unfolding frame_at
 returns-then-log-at c = simp (le-leb _ _ c.if-log-at.true)

@@ -8,37 +8,37 @@ use Rattle.record.proofs.Records.{length_least}
 use Rattle.record.proofs.record.decode_at.Goals as goal
 
 pub bounds-log-at : goal.bounds-log-at
-bounds-log-at c = omega (arith, (frame_inverts _ _ c.read_frame.ensures c.in-Framed.is))
+bounds-log-at c = omega (arith, frame_inverts _ _ c.read_frame.ensures c.in-Framed.is)
 
 pub overflow_add-kind : goal.overflow_add-kind
-overflow_add-kind c = omega (arith, (frame_inverts _ _ c.read_frame.ensures c.in-Framed.is))
+overflow_add-kind c = omega (arith, frame_inverts _ _ c.read_frame.ensures c.in-Framed.is)
 
 pub bounds-log-at-in-Framed : goal.bounds-log-at-in-Framed
-bounds-log-at-in-Framed c = omega (arith, (frame_inverts _ _ c.read_frame.ensures c.in-Framed.is))
+bounds-log-at-in-Framed c = omega (arith, frame_inverts _ _ c.read_frame.ensures c.in-Framed.is)
 
 pub returns-then-expected-eq0 : goal.returns-then-expected-eq0
 unfolding decode_at
-returns-then-expected-eq0 c = rw ((sym c.read_frame.ensures ∙ c.in-Framed.is)) (simp (eq-eqb _ _ (sym c.length_of-expected.ensures ∙ c.if-expected-eq0.true)))
+returns-then-expected-eq0 c = rw (sym c.read_frame.ensures ∙ c.in-Framed.is) (simp (eq-eqb _ _ (sym c.length_of-expected.ensures ∙ c.if-expected-eq0.true)))
 
 pub returns-then-length-expected : goal.returns-then-length-expected
 unfolding decode_at
-returns-then-length-expected c = rw ((sym c.read_frame.ensures ∙ c.in-Framed.is))
+returns-then-length-expected c = rw (sym c.read_frame.ensures ∙ c.in-Framed.is)
     (simp (ne_eqb _ _ (λ e. c.if-expected-eq0.false (c.length_of-expected.ensures ∙ e)), ne_eqb _ _ (λ e. c.if-length-expected.true (e ∙ sym c.length_of-expected.ensures))))
 
 pub overflow_add-at : goal.overflow_add-at
-overflow_add-at c = omega (arith, (frame_inverts _ _ c.read_frame.ensures c.in-Framed.is))
+overflow_add-at c = omega (arith, frame_inverts _ _ c.read_frame.ensures c.in-Framed.is)
 
 pub be16-client-requires : goal.be16-client-requires
-be16-client-requires c = omega (arith, (frame_inverts _ _ c.read_frame.ensures c.in-Framed.is), length_least _ (λ e. c.if-expected-eq0.false (c.length_of-expected.ensures ∙ e)))
+be16-client-requires c = omega (arith, frame_inverts _ _ c.read_frame.ensures c.in-Framed.is, length_least _ (λ e. c.if-expected-eq0.false (c.length_of-expected.ensures ∙ e)))
 
 pub overflow_add-at-in-Framed : goal.overflow_add-at-in-Framed
-overflow_add-at-in-Framed c = omega (arith, (frame_inverts _ _ c.read_frame.ensures c.in-Framed.is))
+overflow_add-at-in-Framed c = omega (arith, frame_inverts _ _ c.read_frame.ensures c.in-Framed.is)
 
 pub be32-tick-requires : goal.be32-tick-requires
-be32-tick-requires c = omega (arith, (frame_inverts _ _ c.read_frame.ensures c.in-Framed.is), length_least _ (λ e. c.if-expected-eq0.false (c.length_of-expected.ensures ∙ e)))
+be32-tick-requires c = omega (arith, frame_inverts _ _ c.read_frame.ensures c.in-Framed.is, length_least _ (λ e. c.if-expected-eq0.false (c.length_of-expected.ensures ∙ e)))
 
 pub event_at-event-requires : goal.event_at-event-requires
-event_at-event-requires c = omega (arith, (frame_inverts _ _ c.read_frame.ensures c.in-Framed.is))
+event_at-event-requires c = omega (arith, frame_inverts _ _ c.read_frame.ensures c.in-Framed.is)
 
 pub returns-in-Cut : goal.returns-in-Cut
 unfolding decode_at
@@ -46,5 +46,5 @@ returns-in-Cut c = rw (← c.read_frame.ensures, c.in-Cut.is) refl
 
 pub returns-else-length-expected : goal.returns-else-length-expected
 unfolding decode_at
-returns-else-length-expected c = rw ((sym c.read_frame.ensures ∙ c.in-Framed.is))
+returns-else-length-expected c = rw (sym c.read_frame.ensures ∙ c.in-Framed.is)
     (simp (ne_eqb _ _ (λ e. c.if-expected-eq0.false (c.length_of-expected.ensures ∙ e)), eq-eqb _ _ (c.if-length-expected.false ∙ c.length_of-expected.ensures), c.be16-client.ensures, c.be32-tick.ensures, c.event_at-event.ensures))

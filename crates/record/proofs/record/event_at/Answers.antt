@@ -9,8 +9,6 @@ use native.Mathlib.Omega.{arith}
 use borrow.Author.Tests.{ne_eqb}
 use Rattle.record.proofs.record.event_at.Goals as goal
 
--- `event_at` meets its contract: each arm is a case of `event_of`, and the lengths of kinds 1 and 4 leave room for a value. A known kind
--- below 3 is 1 or 2.
 -- a known kind below 3 that is not 1 is 2
 call-kind : (kind : ℕ) → 0 < length_of kind → kind < 3 → (kind ≡ 1 → ⊥) → kind ≡ 2
 unfolding length_of

@@ -4,7 +4,6 @@ use native.Mathlib.Omega.{arith}
 use borrow.Author.Tests.{ne_eqb}
 use Rattle.record.proofs.record.length_of.Goals as goal
 
--- `length_of` meets its contract: each arm is a case of `length_of`.
 pub returns-in-1 : goal.returns-in-1
 unfolding length_of
 returns-in-1 c = rw c.in-1.is

@@ -3,7 +3,6 @@ use Rattle.replay.proofs.Marking.{unmarked_new}
 use Rattle.replay.proofs.Placing.{legal_decided}
 use Rattle.replay.proofs.order.is_linearization.Goals as goal
 
--- `is_linearization` meets its contract: an order whose operations can all be placed is legal exactly if it omits no returned one.
 pub place_all-requires : goal.place_all-requires
 place_all-requires c = (c.requires.0, c.requires.2, unmarked_new)
 

@@ -3,7 +3,6 @@ use Rattle.replay.proofs.Marking.{room_left}
 use Rattle.replay.proofs.Placing.{stepped_unknown, stepped_twice, stepped_late, stepped}
 use Rattle.replay.proofs.order.place.Goals as goal
 
--- `place` meets its contract: an operation that is unknown, placed before or too late makes the order illegal; any other is run.
 pub returns-then-count-o : goal.returns-then-count-o
 returns-then-count-o c = record { stepped = λ end. stepped_unknown c.if-count-o.true }
 

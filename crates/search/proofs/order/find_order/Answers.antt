@@ -4,7 +4,6 @@ use Rattle.matching.proofs.Storing.{new_cleared}
 use Rattle.search.proofs.Ordering.{limits_right, ordered}
 use Rattle.search.proofs.order.find_order.Goals as goal
 
--- `find_order` meets its contract.
 pub fill_gaps-requires : goal.fill_gaps-requires
 fill_gaps-requires c = (c.requires.0, c.requires.3.sized, new_cleared max_positions)
 

@@ -17,18 +17,6 @@ loop-waiting-init c = admitting_starts c.requires.2 c.least_return.ensures
 pub is_enabled-requires : goal.is_enabled-requires
 is_enabled-requires c = c.requires.0.few
 
-pub admit_next-a-requires : goal.admit_next-a-requires
-admit_next-a-requires c =
-    let enabled : let a = c.loop-waiting.a in let s = c.args in
-    (a.next < s.count) × (call_at s.table.now a.next < a.least) = rw c.loop-waiting-test.true at c.is_enabled.ensures in
-    (c.requires.0, c.requires.1, c.loop-waiting.invariant.room, (enabled).0, (enabled).1)
-
-pub loop-waiting-smaller : goal.loop-waiting-smaller
-loop-waiting-smaller c =
-    let enabled : let a = c.loop-waiting.a in let s = c.args in
-    (a.next < s.count) × (call_at s.table.now a.next < a.least) = rw c.loop-waiting-test.true at c.is_enabled.ensures in
-    omega (arith, c.admit_next-a.ensures.more, (enabled).0)
-
 pub loop-waiting-preserved : goal.loop-waiting-preserved
 loop-waiting-preserved c = admitting_next c.loop-waiting.invariant c.admit_next-a.ensures
 

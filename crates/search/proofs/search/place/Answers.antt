@@ -7,29 +7,12 @@ use Rattle.reader.specs.Log.{max_records}
 use Rattle.search.proofs.Standing.{entry, ready_places}
 use Rattle.search.proofs.search.place.Goals as goal
 
-pub overflow_cast-list : goal.overflow_cast-list
-overflow_cast-list c =
-    let known : get_or c.args.waiting.now c.args.i 0 < max_records = let room = c.requires.1 in
-    let few = c.requires.0.few in
-    let fits : c.args.s.waiting ≤ length c.args.waiting.now = omega (arith, room.within, room.next_within, room.sized, few) in
-    omega (arith, few, room.known _ (entry c.args.waiting.now c.args.s.waiting c.args.i fits c.requires.2)) in
-    omega (arith, known)
-
-pub overflow_cast-o : goal.overflow_cast-o
-overflow_cast-o c =
-    let known : get_or c.args.waiting.now c.args.i 0 < max_records = let room = c.requires.1 in
-    let few = c.requires.0.few in
-    let fits : c.args.s.waiting ≤ length c.args.waiting.now = omega (arith, room.within, room.next_within, room.sized, few) in
-    omega (arith, few, room.known _ (entry c.args.waiting.now c.args.s.waiting c.args.i fits c.requires.2)) in
-    omega (arith, known)
-
 pub kind_of-requires : goal.kind_of-requires
 kind_of-requires c =
-    let known : get_or c.args.waiting.now c.args.i 0 < max_records = let room = c.requires.1 in
+    let room = c.requires.1 in
     let few = c.requires.0.few in
     let fits : c.args.s.waiting ≤ length c.args.waiting.now = omega (arith, room.within, room.next_within, room.sized, few) in
-    omega (arith, few, room.known _ (entry c.args.waiting.now c.args.s.waiting c.args.i fits c.requires.2)) in
-    known
+    omega (arith, few, room.known _ (entry c.args.waiting.now c.args.s.waiting c.args.i fits c.requires.2))
 
 pub returns : goal.returns
 returns c = let removed = c.remove.ensures in

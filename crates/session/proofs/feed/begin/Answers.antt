@@ -6,7 +6,6 @@ use Rattle.buffer.proofs.Copying.{put_written}
 use Rattle.session.specs.Session.{empty_log}
 use Rattle.session.proofs.feed.begin.Goals as goal
 
--- `begin` meets its contract: a header of no records is the empty log.
 pub returns-then-buf-lt-HEADER : goal.returns-then-buf-lt-HEADER
 returns-then-buf-lt-HEADER c = (rw (lt-ltb _ _ c.if-buf-lt-HEADER.true) refl, rw (lt-ltb _ _ c.if-buf-lt-HEADER.true) refl)
 

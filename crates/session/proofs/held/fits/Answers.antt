@@ -6,7 +6,6 @@ use borrow.Author.Tests.{lt-ltb, le-ltb, ne_eqb}
 use Rattle.session.specs.Session.{is_readable}
 use Rattle.session.proofs.held.fits.Goals as goal
 
--- `fits` meets its contract: at each return the tests that led there say which case of `session_fits` holds.
 pub returns-then-buf-end : goal.returns-then-buf-end
 returns-then-buf-end c = rw (lt-ltb _ _ c.if-buf-end.true)
 

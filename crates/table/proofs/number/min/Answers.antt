@@ -4,7 +4,6 @@ use mathlib.Core.Path.{refl}
 use mathlib.Core.Logic.{inl, inr}
 use Rattle.table.proofs.number.min.Goals as goal
 
--- `min` meets its contract.
 pub returns-then-a-b : goal.returns-then-a-b
 returns-then-a-b c = (omega arith, omega arith, inl refl)
 

@@ -3,7 +3,6 @@ use native.Mathlib.Omega.{arith}
 use borrow.Author.Tests.{ne_eqb}
 use Rattle.timeline.proofs.line.letter_of.Goals as goal
 
--- `letter_of` meets its contract: each arm is a case of the definition.
 pub returns-in-1 : goal.returns-in-1
 returns-in-1 c = rw c.in-1.is
 

@@ -4,7 +4,6 @@ use native.Mathlib.Omega.{arith}
 use Rattle.text.proofs.Decimals.{one_digit, one_digit_more}
 use Rattle.timeline.proofs.line.padding.Goals as goal
 
--- `padding` meets its contract: an operation's number has one digit or two.
 pub returns-then-o-lt10 : goal.returns-then-o-lt10
 returns-then-o-lt10 c = omega (arith, one_digit c.args.o (omega arith))
 

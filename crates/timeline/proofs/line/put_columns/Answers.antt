@@ -11,6 +11,6 @@ returns c =
     let args = c.args in
     let pre = c.requires in (
       omega arith,
-      right_part_put args.start args.end args.records pre.1 pre.2 (room)
+      right_part_put args.start args.end args.records pre.1 pre.2 room
           c.put_run-hashes.ensures c.put_run-dots.ensures c.put_run-spaces.ensures c.put_run-last.ensures.1 c.end_line.ensures,
     )

@@ -13,8 +13,7 @@ overflow_mul-operations c = omega (arith, few c.requires, c.if-records-gt-PAGE_R
 
 pub returns-then-out-operations : goal.returns-then-out-operations
 returns-then-out-operations c =
-    let bytes : Bytes c.args.log.now = λ j. omega (arith, c.type_inv.log j) in
-    page_lacks_room c.requires c.if-records-gt-PAGE_RECORDS.false (bytes) _ c.if-out-operations.true
+    page_lacks_room c.requires c.if-records-gt-PAGE_RECORDS.false (λ j. omega (arith, c.type_inv.log j)) _ c.if-out-operations.true
 
 pub span-requires : goal.span-requires
 span-requires c = (c.requires.whole, c.if-records-gt-PAGE_RECORDS.false, refl, refl)
@@ -24,6 +23,5 @@ put_lines-requires c = (drawable c.requires c.span.ensures c.if-records-gt-PAGE_
 
 pub returns : goal.returns
 returns c =
-    let bytes : Bytes c.args.log.now = λ j. omega (arith, c.type_inv.log j) in
     let of = c.requires in
-    page_written of c.if-records-gt-PAGE_RECORDS.false (bytes) _ c.if-out-operations.false (rw (lines_are of c.span.ensures) at c.put_lines.ensures)
+    page_written of c.if-records-gt-PAGE_RECORDS.false (λ j. omega (arith, c.type_inv.log j)) _ c.if-out-operations.false (rw (lines_are of c.span.ensures) at c.put_lines.ensures)
