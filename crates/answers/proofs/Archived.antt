@@ -8,12 +8,13 @@ use mathlib.Core.Logic.{◌↔◌}
 use mathlib.Core.List.{List, []}
 use lib.ListN.{length, take}
 use borrow.Author.Tests.{le-ltb}
+use Rattle.std.specs.Prelude.{Result, Ok, Err}
+use Rattle.record.specs.declared.refusal.Refused.{Refused}
+use Rattle.record.proofs.Refusals.{numbered}
 use Rattle.record.specs.Number.{Bytes}
 use Rattle.record.specs.declared.record.Record.{Record}
 use Rattle.buffer.specs.Buffer.{lacks_room}
 use Rattle.buffer.specs.Output.{writing, refusal_unit, output_answer}
-use Rattle.buffer.specs.declared.output.Output.{Output}
-use Rattle.buffer.specs.declared.output.Output.TheVariants.{Written, Refused}
 use Rattle.reader.specs.Log.{max_length, readable, read_log, encode_log, has_pending_remove}
 use Rattle.history.specs.Object.{Queue}
 use Rattle.history.specs.History.{add, Returned}
@@ -49,15 +50,15 @@ judge_wrote {log} {sheet} c = go (judge_says (of_log log) c.answers)
 
 -- and that of yr_excerpt
 excerpt_wrote : {log excerpt : List ℕ} (c : ExcerptWrote log excerpt)
-    → (n : ℕ) × (excerpt_answer (read_log log) c.buffer ≡ Written n) × (excerpt ≡ take n (excerpt_leaves (read_log log) c.buffer))
+    → (n : ℕ) × (excerpt_answer (read_log log) c.buffer ≡ Ok n) × (excerpt ≡ take n (excerpt_leaves (read_log log) c.buffer))
 excerpt_wrote {log} {excerpt} c = go (excerpt_answer (read_log log) c.buffer) refl (excerpt_small (of_log log) c.buffer) c.answers
   where
-    go : (given : Output) → excerpt_answer (read_log log) c.buffer ≡ given → SmallOutput given → c.answer ≡ output_answer given
-        → (n : ℕ) × (excerpt_answer (read_log log) c.buffer ≡ Written n) × (excerpt ≡ take n (excerpt_leaves (read_log log) c.buffer))
-    go (Written n) is small e =
+    go : (given : Result ℕ Refused) → excerpt_answer (read_log log) c.buffer ≡ given → SmallOutput given → c.answer ≡ output_answer given
+        → (n : ℕ) × (excerpt_answer (read_log log) c.buffer ≡ Ok n) × (excerpt ≡ take n (excerpt_leaves (read_log log) c.buffer))
+    go (Ok n) is small e =
         let all : c.answer % refusal_unit ≡ n = omega (arith, e, small) in
         (n, is, c.wrote.bytes_are ∙ rw (all, c.leaves) refl)
-    go (Refused number index) is small e = absurd (omega (arith, e, small.0, c.wrote.accepted))
+    go (Err r) is small e = let n = numbered r.refusal in absurd (omega (arith, e, c.wrote.accepted))
 
 -- The sheet that yr_judge writes for a readable log is that of the log's archive,
 pub sheet_archived : {log : List ℕ} {records : List Record} → read_log log ≡ readable records → {sheet : List ℕ} → JudgeWrote log sheet

@@ -5,14 +5,15 @@ use mathlib.Core.Path.{◌≡◌, refl, sym, ap, ◌∙◌}
 use mathlib.Core.Bool.{Bool, true, false}
 use mathlib.Core.List.{List, [], ◌∷◌, ◌++◌, map}
 use lib.ListN.{length, drop}
-use Rattle.std.specs.Prelude.{if◌then◌else◌}
+use Rattle.std.specs.Prelude.{Result, Ok, Err, if◌then◌else◌}
+use Rattle.record.specs.Refusal.{number_of, refusing}
+use Rattle.record.specs.declared.refusal.Refusal.TheVariants.{BufferTooShort}
+use Rattle.record.specs.declared.refusal.Refused.{Refused}
 use Rattle.record.specs.Record.{encode, size_of}
 use Rattle.record.specs.Number.{Bytes}
 use Rattle.record.specs.declared.record.Record.{Record}
-use Rattle.buffer.specs.Buffer.{buffer_too_short, lacks_room, put}
+use Rattle.buffer.specs.Buffer.{lacks_room, put}
 use Rattle.buffer.specs.Output.{output_answer}
-use Rattle.buffer.specs.declared.output.Output.{Output}
-use Rattle.buffer.specs.declared.output.Output.TheVariants.{Written, Refused}
 use Rattle.reader.specs.Log.{header_length, count_field, with_count, readable, read_partial, read_log}
 use Rattle.judge.specs.Judge as Judge
 use Rattle.judge.specs.Judge.{sheet_bytes, Judges}
@@ -31,47 +32,47 @@ use Rattle.answers.proofs.Laws.{AcceptedWith, TurnedDown, small_accepted, refusa
 -- What the number that begin answers says: three bytes were written and the session is open, or all is as it was.
 pub data BeginSays (stage used : ℕ) (buffer : List ℕ) (stage' used' : ℕ) (buffer' : List ℕ) (answer : ℕ) : Type 0 where
   begins : AcceptedWith answer header_length → stage' ≡ open_stage → used' ≡ header_length → buffer' ≡ empty_log ++ drop header_length buffer → BeginSays stage used buffer stage' used' buffer' answer
-  refuses : TurnedDown answer buffer_too_short 0 → stage' ≡ stage → used' ≡ used → buffer' ≡ buffer → BeginSays stage used buffer stage' used' buffer' answer
+  refuses : TurnedDown answer (number_of BufferTooShort) 0 → stage' ≡ stage → used' ≡ used → buffer' ≡ buffer → BeginSays stage used buffer stage' used' buffer' answer
 
 pub begin_says : {stage used stage' used' answer : ℕ} {buffer buffer' : List ℕ} → BeginAnswers stage used buffer stage' used' buffer' answer → BeginSays stage used buffer stage' used' buffer' answer
 begin_says {stage} {used} {stage'} {used'} {answer} {buffer} {buffer'} a = go (lacks_room empty_log buffer) a.answers a.stage_is a.used_is a.leaves
   where
-    go : (lacks : Bool) → answer ≡ output_answer (if lacks then Refused buffer_too_short 0 else Written 3) → stage' ≡ stage_begun stage (if lacks then Refused buffer_too_short 0 else Written 3)
-        → used' ≡ used_begun used (if lacks then Refused buffer_too_short 0 else Written 3) → buffer' ≡ (if lacks then buffer else empty_log ++ drop (length empty_log) buffer)
+    go : (lacks : Bool) → answer ≡ output_answer (if lacks then refusing BufferTooShort 0 else Ok 3) → stage' ≡ stage_begun stage (if lacks then refusing BufferTooShort 0 else Ok 3)
+        → used' ≡ used_begun used (if lacks then refusing BufferTooShort 0 else Ok 3) → buffer' ≡ (if lacks then buffer else empty_log ++ drop (length empty_log) buffer)
         → BeginSays stage used buffer stage' used' buffer' answer
-    go true e s u b = refuses (rw e (refusal_turned_down buffer_too_short 0 (omega arith) (omega arith))) s u b
+    go true e s u b = refuses (rw e (refusal_turned_down (record { refusal = BufferTooShort; index = 0 }) (omega arith))) s u b
     go false e s u b = begins (rw e (small_accepted 3 (omega arith))) s u b
 
 -- a feed writes at most the bytes of a record
 pub feed_small : (stage used : ℕ) (buffer bytes : List ℕ) → SmallOutput (feed_answer stage used buffer bytes)
 feed_small stage used buffer bytes = go (feed_answer stage used buffer bytes) (feed_within stage used buffer bytes)
   where
-    go : (given : Output) → AnswerWithin used given → SmallOutput given
-    go (Written n) small = omega (arith, small.0)
-    go (Refused number index) small = small
+    go : (given : Result ℕ Refused) → AnswerWithin used given → SmallOutput given
+    go (Ok n) small = omega (arith, small.0)
+    go (Err r) small = small
 
 -- What the number that feed answers says: the record was put behind the used bytes and is counted, or the feed was refused, and all is as it was.
 pub data FeedSays (stage used : ℕ) (buffer bytes : List ℕ) (stage' used' : ℕ) (buffer' : List ℕ) (answer : ℕ) : Type 0 where
-  takes : feed_answer stage used buffer bytes ≡ Written (length bytes) → AcceptedWith answer (length bytes) → stage' ≡ stage → used' ≡ used + length bytes
+  takes : feed_answer stage used buffer bytes ≡ Ok (length bytes) → AcceptedWith answer (length bytes) → stage' ≡ stage → used' ≡ used + length bytes
       → buffer' ≡ put used bytes (with_count (count_field buffer + 1) buffer) → FeedSays stage used buffer bytes stage' used' buffer' answer
-  refuses : {number index : ℕ} → feed_answer stage used buffer bytes ≡ Refused number index → TurnedDown answer number index → stage' ≡ stage → used' ≡ used → buffer' ≡ buffer
+  refuses : {r : Refused} → feed_answer stage used buffer bytes ≡ Err r → TurnedDown answer (number_of r.refusal) r.index → stage' ≡ stage → used' ≡ used → buffer' ≡ buffer
       → FeedSays stage used buffer bytes stage' used' buffer' answer
 
 pub feed_says : {stage used stage' used' answer : ℕ} {buffer bytes buffer' : List ℕ} → FeedAnswers stage used buffer bytes stage' used' buffer' answer → FeedSays stage used buffer bytes stage' used' buffer' answer
 feed_says {stage} {used} {stage'} {used'} {answer} {buffer} {bytes} {buffer'} a = go (feed_answer stage used buffer bytes) refl (feed_small stage used buffer bytes) a.answers a.used_is a.leaves
   where
-    go : (given : Output) → feed_answer stage used buffer bytes ≡ given → SmallOutput given → answer ≡ output_answer given → used' ≡ used_fed used given → buffer' ≡ fed_buffer given used buffer bytes
+    go : (given : Result ℕ Refused) → feed_answer stage used buffer bytes ≡ given → SmallOutput given → answer ≡ output_answer given → used' ≡ used_fed used given → buffer' ≡ fed_buffer given used buffer bytes
         → FeedSays stage used buffer bytes stage' used' buffer' answer
-    go (Written n) is small e u b =
+    go (Ok n) is small e u b =
         let all : n ≡ length bytes = accepted_length stage used buffer bytes is in
-        takes (is ∙ ap Written all) (rw (e, ← all) (written_accepted n small)) a.stage_is (u ∙ ap (λ n. used + n) all) b
-    go (Refused number index) is small e u b = refuses {number = number} {index = index} is (rw e (refused_turned_down number index small)) a.stage_is u b
+        takes (is ∙ ap Ok all) (rw (e, ← all) (written_accepted n small)) a.stage_is (u ∙ ap (λ n. used + n) all) b
+    go (Err r) is small e u b = refuses {r = r} is (rw e (refused_turned_down r small)) a.stage_is u b
 
 -- What the number that close answers says: the sheet was written and the session is closed, or all is as it was.
 pub data CloseSays (stage used : ℕ) (buffer sheet : List ℕ) (stage' used' : ℕ) (sheet' : List ℕ) (answer : ℕ) : Type 0 where
   closes : {verdict : Verdict} → Judge.Accepted verdict → Judges (session_reading open_stage stage used buffer) sheet verdict sheet' → AcceptedWith answer (sheet_bytes verdict) → stage' ≡ closed_stage → used' ≡ used
       → CloseSays stage used buffer sheet stage' used' sheet' answer
-  refuses : {number index : ℕ} → Judges (session_reading open_stage stage used buffer) sheet (judge.Refused number index) sheet' → TurnedDown answer number index → stage' ≡ stage → used' ≡ used → sheet' ≡ sheet
+  refuses : {r : Refused} → Judges (session_reading open_stage stage used buffer) sheet (judge.Refused r) sheet' → TurnedDown answer (number_of r.refusal) r.index → stage' ≡ stage → used' ≡ used → sheet' ≡ sheet
       → CloseSays stage used buffer sheet stage' used' sheet' answer
 
 pub close_says : {stage used stage' used' answer : ℕ} {buffer sheet sheet' : List ℕ} → CloseAnswers stage used buffer sheet stage' used' sheet' answer → CloseSays stage used buffer sheet stage' used' sheet' answer
@@ -136,7 +137,7 @@ feeds_follow (more {stage} {used} {stage'} {used'} {buffer = buffer} {buffer'} {
     )
 
 -- the answers of accepted feeds are the sizes of the records
-sizes_answered : (records : List Record) → map output_answer (map (λ r. Written (size_of r)) records) ≡ map size_of records
+sizes_answered : (records : List Record) → map output_answer (map (λ r. Ok (size_of r)) records) ≡ map size_of records
 sizes_answered [] = refl
 sizes_answered (r ∷ records) = ap (λ xs. size_of r ∷ xs) (sizes_answered records)
 

@@ -2,7 +2,6 @@
 ghost use Rattle.answers.specs.Session.{BeginAnswers, FeedAnswers, CloseAnswers, SheetAnswers, ExcerptAnswers};
 
 use crate::answer::{judge_answer, output_answer};
-use buffer::output::Output;
 use session::feed::{begin, feed};
 use session::held::{excerpt_held, judge_held, stage_closed};
 use session::session::{CLOSED, OPEN};
@@ -22,15 +21,12 @@ pub fn begin_turn(stage: u32, used: u32, buf: &mut [u8]) -> Turn
     let output = begin(buf);
     let answer = output_answer(output);
     match output {
-        Output::Written(size) => Turn {
+        Ok(size) => Turn {
             stage: OPEN,
             used: size as u32,
             answer,
         },
-        Output::Refused {
-            number: _,
-            index: _,
-        } => Turn {
+        Err(_) => Turn {
             stage,
             used,
             answer,
@@ -46,15 +42,12 @@ pub fn feed_turn(stage: u32, used: u32, buf: &mut [u8], bytes: &[u8]) -> Turn
     let output = feed(stage, used, buf, bytes);
     let answer = output_answer(output);
     match output {
-        Output::Written(size) => Turn {
+        Ok(size) => Turn {
             stage,
             used: used + size as u32,
             answer,
         },
-        Output::Refused {
-            number: _,
-            index: _,
-        } => Turn {
+        Err(_) => Turn {
             stage,
             used,
             answer,

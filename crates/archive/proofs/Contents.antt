@@ -7,10 +7,12 @@ use mathlib.Core.Logic.{◌⊎◌, inl, inr}
 use mathlib.Core.List.{List, [], ◌++◌}
 use lib.ListN.{length, take, drop}
 use lib.Seq.{take-append_seam}
-use Rattle.std.specs.Prelude.{if◌then◌else◌}
+use Rattle.std.specs.Prelude.{Result, Ok, if◌then◌else◌}
+use Rattle.record.specs.Refusal.{refusing}
+use Rattle.record.specs.declared.refusal.Refusal.TheVariants.{BufferTooShort, RemoveUnreturned}
+use Rattle.record.specs.declared.refusal.Refused.{Refused}
 use Rattle.record.specs.declared.record.Record.{Record}
-use Rattle.buffer.specs.Buffer.{buffer_too_short, lacks_room, written}
-use Rattle.buffer.specs.declared.output.Output.TheVariants.{Written, Refused}
+use Rattle.buffer.specs.Buffer.{lacks_room, written}
 use Rattle.reader.specs.Log.{max_records, Reading, readable, refused, read_log, operations, encode_log, has_pending_remove}
 use Rattle.reader.specs.Readable.{Within}
 use Rattle.reader.proofs.Laws.{within, few_operations}
@@ -58,7 +60,7 @@ judged_contents log accepted j = go (read_log log) refl accepted j
   where
     go : (reading : Reading) → read_log log ≡ reading → {buffer left : List ℕ} {answer : Verdict} → Accepted answer → Judges reading buffer answer left → Contents log (take (sheet_bytes answer) left)
     go (readable records) reads accepted (judged j) = let shown = judged_shows j accepted in sheet_contents log records reads shown.verdict shown.chosen shown.holds
-    go (refused number index) reads accepted turned_down = absurd (accepted_not_refused accepted refl)
+    go (refused refusal index) reads accepted turned_down = absurd (accepted_not_refused accepted refl)
 
 -- the verdict byte of an order
 pub order_byte : (log : List ℕ) {buffer left : List ℕ} {k : ℕ} → Judges (read_log log) buffer (Order k) left → verdict_byte (take (sheet_bytes (Order k)) left) ≡ order_verdict
@@ -66,7 +68,7 @@ order_byte log j = go (read_log log) j refl
   where
     go : (reading : Reading) → {buffer left : List ℕ} {answer : Verdict} {k : ℕ} → Judges reading buffer answer left → answer ≡ Order k → verdict_byte (take (sheet_bytes (Order k)) left) ≡ order_verdict
     go (readable records) (judged j) e = ap verdict_byte (judged_shows (rw e at j) order).holds
-    go (refused number index) turned_down e = absurd (accepted_not_refused order (sym e))
+    go (refused refusal index) turned_down e = absurd (accepted_not_refused order (sym e))
 
 pub archive_contents : {log sheet excerpt : List ℕ} → Archive log sheet excerpt → Contents log sheet
 archive_contents {log} (with_order j) = judged_contents log order j
@@ -75,17 +77,17 @@ archive_contents {log} (sheet_alone j reads pending) = judged_contents log patte
 
 -- the excerpt that a call wrote
 excerpt_is : (records : List Record) (out : List ℕ) {written : ℕ} {n : ℕ} {listed : List ℕ} → violations.FirstViolation Queue (history_of records) n listed
-    → (found : SomeViolation Queue (history_of records) ⊎ NoViolation Queue (history_of records)) → excerpt_answer_of records found out ≡ Written written
+    → (found : SomeViolation Queue (history_of records) ⊎ NoViolation Queue (history_of records)) → excerpt_answer_of records found out ≡ Ok written
     → take written (excerpt_leaves_of records found out) ≡ encode_log (excerpted records listed)
-excerpt_is records out {written} {listed = listed} first (inr clean) e = let z : ◌≡◌ {A = ℕ} 0 1 = cc in absurd (omega arith)
+excerpt_is records out {written} {listed = listed} first (inr clean) e = cc
 excerpt_is records out {written} {listed = listed} first (inl (m, other, found)) e = rw (first_violation_one first found).1 (go (lacks_room bytes out) e)
   where
     bytes : List ℕ
     bytes = encode_log (excerpted records other)
 
-    go : (lacks : Bool) → (if lacks then Refused buffer_too_short 0 else Written (length bytes)) ≡ Written written
+    go : (lacks : Bool) → (if lacks then refusing BufferTooShort 0 else Ok (length bytes)) ≡ Ok written
         → take written (if lacks then out else bytes ++ drop (length bytes) out) ≡ bytes
-    go true e = let z : ◌≡◌ {A = ℕ} 0 1 = cc in absurd (omega arith)
+    go true e = cc
     go false e = let same : written ≡ length bytes = cc in rw same (take-append_seam bytes (drop (length bytes) out))
 
 -- with a pattern the excerpt of its operations is kept, if no remove is open,
@@ -98,8 +100,7 @@ archive_excerpt (with_pattern j out e) records reads returned first some =
 archive_excerpt (sheet_alone {records = own} j read pending) records reads returned first some =
     let same : own ≡ records = let e : readable own ≡ readable records = sym read ∙ reads in cc in
     let z : ◌≡◌ {A = Bool} true false = sym pending ∙ ap has_pending_remove same ∙ returned in
-    let y : ◌≡◌ {A = ℕ} 0 1 = cc in
-    absurd (omega arith)
+    cc
 
 -- and nothing if one is: "For such logs the archive keeps the sheet alone."
 pub archive_alone : {log sheet excerpt : List ℕ} → Archive log sheet excerpt → (records : List Record) → read_log log ≡ readable records
@@ -107,6 +108,5 @@ pub archive_alone : {log sheet excerpt : List ℕ} → Archive log sheet excerpt
 archive_alone (with_order j) records reads pending = refl
 archive_alone (sheet_alone j read own) records reads pending = refl
 archive_alone {log} (with_pattern {written = written} j out e) records reads pending =
-    let z : Refused 32 0 ≡ Written written = sym (excerpt_pending log records reads pending out).0 ∙ e in
-    let y : ◌≡◌ {A = ℕ} 0 1 = cc in
-    absurd (omega arith)
+    let z : refusing RemoveUnreturned 0 ≡ Ok written = sym (excerpt_pending log records reads pending out).0 ∙ e in
+    cc

@@ -7,6 +7,7 @@ use mathlib.Core.Path.{◌≡◌, sym, ap, ◌∙◌}
 use mathlib.Core.Bool.{false}
 use mathlib.Core.Logic.{◌↔◌}
 use mathlib.Core.List.{List}
+use Rattle.std.specs.Prelude.{true, Ok}
 use Rattle.record.specs.Number.{Bytes}
 use Rattle.record.specs.declared.record.Record.{Record}
 use Rattle.reader.specs.Log.{readable, read_log, encode_log, has_pending_remove}
@@ -21,7 +22,6 @@ use Rattle.violations.specs.Violations.{Is, Removed}
 use Rattle.violations.specs.Verdict.{FirstViolation, Verdict}
 use Rattle.violations.proofs.Laws.{verdict_exactly, verdict_legal, verdict_pending, pattern_of}
 use Rattle.replay.specs.Replay.{replayed}
-use Rattle.replay.specs.declared.replay.Replayed.TheVariants.{Yes}
 use Rattle.replay.proofs.Laws.{linearization_replays}
 use Rattle.projection.specs.Projection.{excerpted}
 use Rattle.projection.proofs.Laws.{excerpt_verdict}
@@ -65,7 +65,7 @@ module _ {log : List ℕ} {records : List Record} (reads : read_log log ≡ read
       let read = readable_log log records reads in
       verdict_pending Queue (history_lawful read) (history_lone read) (verdict_is reads archive).0 e
 
-  pub order_replays : verdict_byte sheet ≡ order_verdict → replayed (read_log log) sheet ≡ Yes
+  pub order_replays : verdict_byte sheet ≡ order_verdict → replayed (read_log log) sheet ≡ Ok true
   order_replays e =
       ap (replayed (read_log log)) ((verdict_is reads archive).1 ∙ ap (λ byte. sheet_of byte (listed_on sheet)) e)
       ∙ (linearization_replays log records reads (listed_on sheet) (order_is_legal e)).1

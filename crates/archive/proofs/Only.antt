@@ -7,9 +7,11 @@ use mathlib.Core.Bool.{Bool, true, false}
 use mathlib.Core.Logic.{◌⊎◌, inl, inr}
 use mathlib.Core.List.{List, []}
 use lib.ListN.{take}
-use Rattle.std.specs.Prelude.{if◌then◌else◌}
+use Rattle.std.specs.Prelude.{Result, Ok, if◌then◌else◌}
+use Rattle.record.specs.Refusal.{refusing}
+use Rattle.record.specs.declared.refusal.Refusal.TheVariants.{RemoveUnreturned}
+use Rattle.record.specs.declared.refusal.Refused.{Refused}
 use Rattle.record.specs.declared.record.Record.{Record}
-use Rattle.buffer.specs.declared.output.Output.TheVariants.{Written, Refused}
 use Rattle.reader.specs.Log.{readable, read_log, encode_log, has_pending_remove}
 use Rattle.reader.proofs.Laws.{readable_log}
 use Rattle.history.specs.Object.{Queue}
@@ -23,7 +25,7 @@ use Rattle.violations.proofs.Laws.{first_violation, occurs_numbered, verdict_one
 use Rattle.judge.specs.Judge.{sheet_bytes, Accepted, order, pattern, Judges}
 use Rattle.judge.specs.declared.judge.Verdict.{Verdict}
 use Rattle.projection.specs.Projection.{excerpted}
-use Rattle.projection.specs.Outcome.{remove_unreturned, excerpt_answer_of, excerpt_answer, excerpt_leaves}
+use Rattle.projection.specs.Outcome.{excerpt_answer_of, excerpt_answer, excerpt_leaves}
 use Rattle.archive.specs.Archive.{verdict_byte, Archive, with_order, with_pattern, sheet_alone}
 use Rattle.archive.proofs.Contents.{Contents, judged_contents, order_byte, archive_contents, archive_excerpt, archive_alone}
 use Rattle.archive.proofs.Existing.{archive_exists}
@@ -47,20 +49,20 @@ contents_one {sheet = sheet} {sheet' = sheet'} c d =
     c.whole ∙ ap (λ b. sheet_of b (listed_on sheet)) byte ∙ ap (sheet_of (verdict_byte sheet')) lists ∙ sym d.whole
 
 -- with an order no excerpt is written
-unwritten : {log sheet : List ℕ} (c : Contents log sheet) → verdict_byte sheet ≡ order_verdict → (out : List ℕ) {n : ℕ} → excerpt_answer (read_log log) out ≡ Written n → ⊥
+unwritten : {log sheet : List ℕ} (c : Contents log sheet) → verdict_byte sheet ≡ order_verdict → (out : List ℕ) {n : ℕ} → excerpt_answer (read_log log) out ≡ Ok n → ⊥
 unwritten {log} c e out {n} wrote = by (has_pending_remove c.records) refl (rw c.reads at wrote)
   where
     go : has_pending_remove c.records ≡ false → (found : SomeViolation Queue (history_of c.records) ⊎ NoViolation Queue (history_of c.records))
-        → excerpt_answer_of c.records found out ≡ Written n → ⊥
+        → excerpt_answer_of c.records found out ≡ Ok n → ⊥
     go returned (inl (number, listed, first)) w =
         let all = history_returned (readable_log log c.records c.reads) returned in
         let same = (verdict_one (contents_lawful c) c.verdict (complete_is_verdict Queue all (CompleteVerdict.violation first))).0 in
         omega (arith, same, e, occurs_numbered first.occurs)
-    go returned (inr clean) w = let z : ◌≡◌ {A = ℕ} 0 1 = cc in omega arith
+    go returned (inr clean) w = cc
 
     by : (b : Bool) → has_pending_remove c.records ≡ b
-        → (if b then Refused remove_unreturned 0 else excerpt_answer_of c.records (first_violation Queue (history_of c.records)) out) ≡ Written n → ⊥
-    by true pending w = let z : ◌≡◌ {A = ℕ} 0 1 = cc in omega arith
+        → (if b then refusing RemoveUnreturned 0 else excerpt_answer_of c.records (first_violation Queue (history_of c.records)) out) ≡ Ok n → ⊥
+    by true pending w = cc
     by false returned w = go returned (first_violation Queue (history_of c.records)) w
 
 pub order_alone : {log sheet excerpt : List ℕ} → Archive log sheet excerpt → verdict_byte sheet ≡ order_verdict → excerpt ≡ []
@@ -98,7 +100,7 @@ judged_archived {log} {records} reads {left = left} {answer} accepted j =
 
 -- and with a pattern whatever excerpt was written belongs to it.
 pub excerpt_archived : {log : List ℕ} {buffer left : List ℕ} {answer : Verdict} → Accepted answer → Judges (read_log log) buffer answer left
-    → (verdict_byte (take (sheet_bytes answer) left) ≡ order_verdict → ⊥) → (out : List ℕ) {n : ℕ} → excerpt_answer (read_log log) out ≡ Written n
+    → (verdict_byte (take (sheet_bytes answer) left) ≡ order_verdict → ⊥) → (out : List ℕ) {n : ℕ} → excerpt_answer (read_log log) out ≡ Ok n
     → Archive log (take (sheet_bytes answer) left) (take n (excerpt_leaves (read_log log) out))
 excerpt_archived {log} order j some out e = absurd (some (order_byte log j))
 excerpt_archived pattern j some out e = with_pattern j out e

@@ -1,39 +1,13 @@
 -- Bytes put into a buffer, and behind others.
-use Prim.Native.Nat.{ℕ, ◌+◌, ◌≤◌, ◌<◌}
+use Prim.Native.Nat.{ℕ, ◌+◌, ◌≤◌}
 use native.Mathlib.Omega.{arith}
-use native.Mathlib.Numerals.{add-one}
 use native.Mathlib.Nat.{add_assoc, zero-add}
-use mathlib.Core.Path.{◌≡◌, refl, ◌∙◌}
+use mathlib.Core.Path.{◌≡◌, refl}
 use mathlib.Core.List.{List, [], ◌++◌, append_assoc}
-use lib.ListN.{length, get_or, set, take, drop, length-set, length-append, length-drop}
-use lib.Seq.{paste, paste-zero, paste-suc, take-length, take_at, drop_at, drop-drop, length-take-le}
+use lib.ListN.{length, take, drop, length-append, length-drop}
+use lib.Seq.{paste-zero, take_at, drop_at, drop-drop, length-take-le}
 use borrow.Author.Tests.{le-ltb}
 use Rattle.buffer.specs.Buffer.{written, put}
-
--- The loop of `copy` has come to byte i.
-pub record Copying (bytes : List ℕ) (at : ℕ) (old out : List ℕ) (i : ℕ) : Type 0 where
-  -- it has come no further than their end
-  pub within : i ≤ length bytes
-  -- the buffer has the length that it had
-  pub sized : length out ≡ length old
-  -- the bytes before it are copied
-  pub copied : out ≡ paste old at bytes i
-
-pub copying_starts : (bytes : List ℕ) (at : ℕ) (out : List ℕ) → Copying bytes at out out 0
-copying_starts bytes at out = record { within = omega arith; sized = refl; copied = paste-zero out at bytes }
-
-pub copying_next : {bytes old out : List ℕ} {at i : ℕ} → Copying bytes at old out i → at + length bytes ≤ length old → i < length bytes
-    → Copying bytes at old (set out (at + i) (get_or bytes i 0)) (i + 1)
-copying_next {bytes} {old} {out} {at} {i} copying h l = record {
-  within = omega arith;
-  sized = length-set out _ _ ∙ copying.sized;
-  copied = rw (copying.copied, add-one) (paste-suc old at bytes i 0 (omega arith) l);
-}
-
-pub copying_ends : {bytes old out : List ℕ} {at i : ℕ} → Copying bytes at old out i → length bytes ≤ i → out ≡ put at bytes old
-copying_ends {bytes} {old} {out} {at} {i} copying l =
-    let all : i ≡ length bytes = omega (arith, copying.within) in
-    copying.copied ∙ rw (all, take-length bytes) refl
 
 -- no bytes change nothing
 pub put_nothing : (at : ℕ) (out : List ℕ) → out ≡ put at [] out

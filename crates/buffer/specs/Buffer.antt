@@ -2,9 +2,6 @@
 -- keep their contents", and 24: "a buffer too short for the complete answer".
 use Rattle.std.specs.Prelude.{ℕ, ◌+◌, Bool, List, ◌++◌, length, take, drop, ltb, if◌then◌else◌}
 
-abbrev pub buffer_too_short : ℕ
-buffer_too_short = 24
-
 -- the buffer is too short for the answer
 abbrev pub lacks_room : List ℕ → List ℕ → Bool
 lacks_room answer buffer = ltb (length buffer) (length answer)

@@ -2,4 +2,3 @@
 #![tactic(auto)]
 
 pub mod buffer;
-pub mod output;

@@ -4,61 +4,55 @@ ghost use Rattle.std.specs.Prelude.{◌≡◌, ◌-◌, ◌≤◌, ◌<◌, leng
 ghost use Rattle.reader.specs.Log.{max_records};
 ghost use Rattle.history.specs.History.{remove, no_kind};
 ghost use Rattle.history.specs.Positions.{max_positions};
-ghost use Rattle.history.specs.Table.{table_length, kind_at, value_at, call_at, tabled, Entered};
-ghost use Rattle.matching.specs.Answers.{First};
-ghost use Rattle.matching.specs.Held.{Held};
-ghost use Rattle.fates.specs.Fates.{free_return, LeastAt};
+ghost use Rattle.history.specs.Table.{table_length, kind_at, value_at, call_at, Entered};
+ghost use Rattle.matching.specs.Answers.{FirstIn};
+ghost use Rattle.matching.specs.View.{history_in};
+ghost use Rattle.fates.specs.Fates.{free_return, LeastIn};
 
 use history::fill::enter;
-use history::operations::{
-    ADD, NO_KIND, Operations, REMOVE, call_of, kind_of, return_of, value_of,
-};
+use history::operations::{ADD, NO_KIND, Operations, REMOVE, call_of, kind_of, value_of};
 use matching::values::Numbers;
+use matching::view::History;
 
-// The lowest remove that has not returned, or `count` if there is none.
-pub fn pending_remove(table: &Operations, count: usize) -> usize
+// The lowest remove that has not returned, if there is one.
+pub fn pending_remove(table: &Operations, count: usize) -> Option<usize>
     requires { count ≤ max_records }
-    ensures { First (λ p. kind_at table.now p ≡ no_kind) count result }
+    ensures { FirstIn (λ p. kind_at table.now p ≡ no_kind) count result }
 {
-    let mut o = 0;
-    while o < count {
+    for o in 0..count {
         if kind_of(table, o) == NO_KIND {
-            return o;
+            return Some(o);
         }
-        o += 1;
     }
-    count
+    None
 }
 
 // When an operation returns, if it is an add that is never removed; the end for every other.
-fn free_return(table: &Operations, count: usize, end: usize, partner: &Numbers, a: usize) -> u32
-    requires { Held (tabled count end table.now) × (length partner.now ≡ max_records) × (a < max_records) }
-    ensures { result ≡ free_return (tabled count end table.now) partner.now a }
+fn free_return(h: &History, partner: &Numbers, a: usize) -> u32
+    requires { a < h.now.count }
+    ensures { result ≡ free_return (history_in h.now) partner.now a }
 {
-    if kind_of(table, a) != ADD {
-        return end as u32;
+    if h.kind(a) != ADD {
+        return h.end as u32;
     }
     if partner[a] != 0 {
-        return end as u32;
+        return h.end as u32;
     }
-    return_of(table, a)
+    h.returned(a)
 }
 
-// The add that returns first of those that are never removed, or `count` if none of them has returned.
-pub fn soonest_free(table: &Operations, count: usize, end: usize, partner: &Numbers) -> usize
-    requires { Held (tabled count end table.now) × (length partner.now ≡ max_records) }
-    ensures { LeastAt (free_return (tabled count end table.now) partner.now) end count result }
+// The add that returns first of those that are never removed, if one of them has returned.
+pub fn soonest_free(h: &History, partner: &Numbers) -> Option<usize>
+    ensures { LeastIn (free_return (history_in h.now) partner.now) h.now.end h.now.count result }
 {
-    let mut soonest = count;
-    let mut least = end as u32;
-    let mut a = 0;
-    while a < count {
-        let returned = free_return(table, count, end, partner, a);
+    let mut soonest = None;
+    let mut least = h.end as u32;
+    for a in 0..h.count {
+        let returned = free_return(h, partner, a);
         if returned < least {
-            soonest = a;
+            soonest = Some(a);
             least = returned;
         }
-        a += 1;
     }
     soonest
 }

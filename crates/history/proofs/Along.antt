@@ -1,26 +1,18 @@
 -- A loop that goes along the records of a readable log, from one to the next.
-use Prim.Native.Nat.{ℕ, ◌+◌, ◌≤◌, ◌<◌}
+use Prim.Native.Nat.{ℕ, ◌+◌, ◌<◌}
 use native.Mathlib.Omega.{arith}
-use mathlib.Core.Path.{◌≡◌, refl, sym, ◌∙◌}
+use mathlib.Core.Path.{◌≡◌, refl, sym, ap, ◌∙◌}
 use mathlib.Core.List.{List}
 use lib.ListN.{length}
+use Rattle.std.specs.Prelude.{Result, Ok}
 use Rattle.record.specs.Record.{decode_at}
 use Rattle.record.specs.declared.record.Record.{Record}
-use Rattle.record.specs.declared.record.Decoded.{Decoded}
-use Rattle.record.specs.declared.record.Decoded.TheVariants.{Found, Malformed}
+use Rattle.record.specs.declared.refusal.Refusal.{Refusal}
 use Rattle.reader.specs.Log.{header_length, readable, read_log}
 use Rattle.reader.specs.Readable.{record_of, sizes, offset_of, ReadableLog}
 use Rattle.reader.proofs.Laws.{readable_log}
 use Rattle.history.specs.Table.{Whole}
-
--- The loop has come to record i.
-pub record Along (log : List ℕ) (records : List Record) (at i : ℕ) : Type 0 where
-  -- the log is readable, and these are its records
-  pub readable : ReadableLog log records
-  -- the loop has come no further than its end
-  pub within : i ≤ length records
-  -- record i stands at this offset
-  pub stands : at ≡ offset_of records i
+pub use Rattle.history.specs.Walks.{Along}
 
 -- a log that is said to be readable is so
 pub whole_readable : {log : List ℕ} {end : ℕ} (whole : Whole log end) → ReadableLog log whole.records
@@ -36,18 +28,16 @@ along_start whole = record { readable = whole_readable whole; within = omega ari
 
 module _ {log : List ℕ} {records : List Record} {at i : ℕ} (along : Along log records at i) (l : i < length records) where
   -- there is a record
-  pub along_record : decode_at log at ≡ Found (record_of records i) (offset_of records (i + 1))
+  pub along_record : decode_at log at ≡ Ok (record_of records i, offset_of records (i + 1))
   along_record = rw along.stands (along.readable.partial.stands i l)
 
-  pub along_found : {number : ℕ} {d : Decoded} → d ≡ decode_at log at → d ≡ Malformed number → ⊥
-  along_found e m =
-      let found = along_record in
-      let z : ◌≡◌ {A = ℕ} 0 1 = cc in omega arith
+  module _ {r : Record} {next : ℕ} {d : Result (Record × ℕ) Refusal} (e : d ≡ decode_at log at) (f : d ≡ Ok (r, next)) where
+    both : ◌≡◌ {A = Record × ℕ} (record_of records i, offset_of records (i + 1)) (r, next)
+    both = let found = along_record in cc
 
-  module _ {r : Record} {next : ℕ} {d : Decoded} (e : d ≡ decode_at log at) (f : d ≡ Found r next) where
     pub along_here : record_of records i ≡ r
-    along_here = let found = along_record in cc
+    along_here = ap (λ (p : Record × ℕ). p.0) both
 
     -- the next one stands behind it
     pub along_next : Along log records next (i + 1)
-    along_next = let found = along_record in record { readable = along.readable; within = omega arith; stands = cc }
+    along_next = record { readable = along.readable; within = omega arith; stands = sym (ap (λ (p : Record × ℕ). p.1) both) }

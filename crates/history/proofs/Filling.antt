@@ -9,22 +9,19 @@ use lib.Seq.{take-length}
 use borrow.Author.Tests.{lt-ltb, le-ltb}
 use Rattle.record.specs.declared.record.Event.TheVariants.{CallRemove}
 use Rattle.record.specs.declared.record.Record.{Record}
-use Rattle.map.proofs.Laws.{new_keys, new_chains}
 use Rattle.reader.specs.Log.{is_call, leaves, operations}
 use Rattle.reader.specs.Readable.{record_of, asks, Regular}
 use Rattle.history.specs.Positions.{position_of, end_of, return_position}
 use Rattle.history.specs.Operations.{call_index, return_index, kind_by, value_by, operation_at}
-use Rattle.history.specs.Owners.{Traced}
 use Rattle.history.specs.Table.{table_length, Entered, Told, Filled, HistoryHeld}
 use Rattle.history.proofs.Numbering.{index_of_rank, rank_step, ranks_rise, ranks_below, next_is_return}
 use Rattle.history.proofs.Entries.{entry_stays}
 use Rattle.history.proofs.Owning.{operation_called, owner_called, operation_answered, call_before, returned_by}
-use Rattle.history.proofs.Tracing.{traced_none}
 
 -- before the first record
-pub filled_none : (records : List Record) (table : List ℕ) → length table ≡ table_length → Filled records table 0 0 new_keys new_chains table
+pub filled_none : (records : List Record) (table : List ℕ) → length table ≡ table_length → Filled records table 0 table
+unfolding operations
 filled_none records table t = record {
-  traced = traced_none records;
   table_sized = t;
   untouched = λ o f l s. refl;
   returned = λ o h. absurd (omega arith);
@@ -32,24 +29,30 @@ filled_none records table t = record {
 }
 
 -- The operation that a return ends.
-pub record Ends (records : List Record) (n count o : ℕ) : Type 0 where
-  pub below : o < count
+pub record Ends (records : List Record) (n o : ℕ) : Type 0 where
+  pub below : o < operations (take n records)
   pub returns : return_index records (call_index records o) ≡ n
   pub asked : leaves (record_of records (call_index records o)).event ≡ asks (record_of records n).event
 
-module _ {records : List Record} (regular : Regular records) {n : ℕ} (h : n < length records) {count count' : ℕ} {old callers chains callers' chains' table : List ℕ}
-    (filled : Filled records old n count callers chains table) (traced : Traced records (n + 1) count' callers' chains') {o : ℕ} (is : o ≡ operation_at records n) where
+module _ {records : List Record} (regular : Regular records) {n : ℕ} (h : n < length records) {old table : List ℕ} (filled : Filled records old n table) {o : ℕ} (is : o ≡ operation_at records n) where
+  -- how many operations are called before the record, and with it
+  abbrev count : ℕ
+  count = operations (take n records)
+
+  abbrev count' : ℕ
+  count' = operations (take (n + 1) records)
+
   more : count' ≡ count + is_call (record_of records n).event
-  more = omega (arith, rank_step records n h, filled.traced.counted, traced.counted)
+  more = rank_step records n h
 
   -- no other operation returns here
   alone : (p : ℕ) → p < count → return_index records (call_index records p) ≡ n → p ≡ o
-  alone p l e = returned_by regular p n (omega (arith, filled.traced.counted, ranks_below records n)) h e ∙ sym is
+  alone p l e = returned_by regular p n (omega (arith, ranks_below records n)) h e ∙ sym is
 
   -- one record more, which is a call
   module _ (c : is_call (record_of records n).event ≡ 1) where
     new : o ≡ count
-    new = omega (arith, is, operation_called records n h c, filled.traced.counted)
+    new = omega (arith, is, operation_called records n h c)
 
     own : call_index records o ≡ n
     own = rw is (owner_called records n h c)
@@ -61,9 +64,8 @@ module _ {records : List Record} (regular : Regular records) {n : ℕ} (h : n < 
     before p l r (yes b) = b
     before p l r (no b) = absurd (not_now p l (omega arith))
 
-    pub filled_call : {table' : List ℕ} → Entered table o (kind_by (record_of records n).event CallRemove) (value_by (record_of records n).event CallRemove) (position_of records n) (end_of records) table' → Filled records old (n + 1) count' callers' chains' table'
+    pub filled_call : {table' : List ℕ} → Entered table o (kind_by (record_of records n).event CallRemove) (value_by (record_of records n).event CallRemove) (position_of records n) (end_of records) table' → Filled records old (n + 1) table'
     filled_call {table'} entered = record {
-      traced = traced;
       table_sized = entered.sized ∙ filled.table_sized;
       untouched = λ p f l s. entered.others p f s (λ e. omega (arith, more, new)) ∙ filled.untouched p f (omega (arith, more)) s;
       returned = λ p l r. back p l r (ℕ_discrete p o);
@@ -81,21 +83,20 @@ module _ {records : List Record} (regular : Regular records) {n : ℕ} (h : n < 
 
   -- one record more, which is a return
   module _ (c : is_call (record_of records n).event ≡ 0) where
-    pub return_ends : Ends records n count o
+    pub return_ends : Ends records n o
     return_ends =
         let (i, next, call) = call_before regular n h c in
         let rank : o ≡ operations (take i records) = is ∙ operation_answered regular i n next call in
         let own : call_index records o ≡ i = rw rank (index_of_rank records i (omega (arith, next.later)) call) in
         record {
-          below = omega (arith, rank, call, filled.traced.counted, rank_step records i (omega (arith, next.later)), ranks_rise records (i + 1) n (omega (arith, next.later)));
+          below = omega (arith, rank, call, rank_step records i (omega (arith, next.later)), ranks_rise records (i + 1) n (omega (arith, next.later)));
           returns = rw own (next_is_return records i n next);
           asked = rw own (sym (regular.next i n next));
         }
 
     pub filled_return : {table' : List ℕ} → Entered table o (kind_by (record_of records (call_index records o)).event (record_of records n).event) (value_by (record_of records (call_index records o)).event (record_of records n).event) (position_of records (call_index records o)) (position_of records n) table'
-        → Filled records old (n + 1) count' callers' chains' table'
+        → Filled records old (n + 1) table'
     filled_return {table'} entered = record {
-      traced = traced;
       table_sized = entered.sized ∙ filled.table_sized;
       untouched = λ p f l s. entered.others p f s (λ e. omega (arith, more, return_ends.below)) ∙ filled.untouched p f (omega (arith, more)) s;
       returned = λ p l r. back p (omega (arith, more)) r (ℕ_discrete p o) (dec_lt (return_index records (call_index records p)) n);
@@ -113,9 +114,8 @@ module _ {records : List Record} (regular : Regular records) {n : ℕ} (h : n < 
         wait p l r (no d) = entry_stays entered d (filled.pending p l (omega arith))
 
 -- behind the last record the table holds the history
-pub filled_all : {records : List Record} {count : ℕ} {old callers chains table : List ℕ} → Filled records old (length records) count callers chains table
-    → HistoryHeld records old table
-filled_all {records} {count} {old} {callers} {chains} {table} filled = record {
+pub filled_all : {records : List Record} {old table : List ℕ} → Filled records old (length records) table → HistoryHeld records old table
+filled_all {records} {old} {table} filled = record {
   sized = filled.table_sized;
   agree = record {
     count = refl;
@@ -128,10 +128,10 @@ filled_all {records} {count} {old} {callers} {chains} {table} filled = record {
   untouched = λ o f l s. filled.untouched o f (omega (arith, all)) s;
 }
   where
-    all : count ≡ operations records
-    all = filled.traced.counted ∙ ap operations (take-length records)
+    all : operations (take (length records) records) ≡ operations records
+    all = ap operations (take-length records)
 
-    by : (o : ℕ) → o < count → Dec (return_index records (call_index records o) < length records)
+    by : (o : ℕ) → o < operations (take (length records) records) → Dec (return_index records (call_index records o) < length records)
         → Told records table o (record_of records (return_index records (call_index records o))).event (return_position records (return_index records (call_index records o)))
     by o l (yes b) = rw (lt-ltb _ _ b) (filled.returned o l b)
     by o l (no b) =

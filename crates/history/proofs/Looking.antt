@@ -8,19 +8,21 @@ use mathlib.Core.List.{List}
 use lib.ListN.{length, take}
 use lib.Seq.{length-take-le}
 use Rattle.record.specs.Number.{big_endian}
+use Rattle.std.specs.Prelude.{Result, Ok}
 use Rattle.record.specs.Record.{decode_at}
 use Rattle.record.specs.declared.record.Record.{Record}
-use Rattle.record.specs.declared.record.Decoded.{Decoded}
-use Rattle.record.specs.declared.record.Decoded.TheVariants.{Found, Malformed}
+use Rattle.record.specs.declared.refusal.Refusal.{Refusal}
 use Rattle.record.proofs.Records.{event_least}
 use Rattle.reader.specs.Log.{is_call, max_length, operations}
 use Rattle.reader.specs.Readable.{record_of, offset_of, Regular}
 use Rattle.reader.proofs.Bytes.{Stood, decode_inverts}
 use Rattle.reader.proofs.Laws.{few_operations}
 use Rattle.history.specs.Table.{Whole}
+use Rattle.history.specs.Walks.{Along}
+use Rattle.history.specs.declared.walk.Step.{Step}
 use Rattle.history.specs.Batches.{BatchOf, Batched, Beside, BatchFound}
 use Rattle.history.specs.declared.batches.Batch.{Batch}
-use Rattle.history.proofs.Along.{Along, whole_readable, whole_one, along_record, along_found, along_here, along_next}
+use Rattle.history.proofs.Along.{whole_readable, whole_one, along_record, along_here, along_next}
 use Rattle.history.proofs.Numbering.{rank_step}
 
 -- no more operations are called than there are records
@@ -58,20 +60,20 @@ pub record Looking (log : List ℕ) (i end count tick at stop calls : ℕ) : Typ
   pub same : (j : ℕ) → j < stop → (record_of whole.records j).tick ≤ tick
   pub called : calls ≡ operations (take stop whole.records)
 
-pub looking_starts : {log : List ℕ} {r : Record} {next i end count c : ℕ} {before : Batch} → Beside log r next i end count before → before.stop ≤ i
-    → c ≡ is_call r.event → Looking log i end count r.tick next (i + 1) (count + c)
-looking_starts {r = r} {i = i} beside fresh e =
+pub looking_starts : {log : List ℕ} {step : Step} {end c : ℕ} {before : Batch} → Beside log step end before → before.stop ≤ step.index
+    → is_call step.record.event ≡ c → Looking log step.index end step.called step.record.tick step.next (step.index + 1) (step.called + c)
+looking_starts {step = step} beside fresh e =
     let read = whole_readable beside.whole in
-    let there : i < length beside.whole.records = omega (arith, beside.within, beside.whole.counted) in
+    let told = beside.told in
     record {
       whole = beside.whole;
-      along = record { readable = read; within = omega arith; stands = beside.stands };
+      along = record { readable = read; within = omega (arith, told.there); stands = told.stands };
       later = omega arith;
-      here = ap (λ q. q.tick) beside.here;
-      begins = λ j l. rw beside.here at (beside.batched.begins there fresh j l);
-      counted = beside.counted;
-      same = λ j l. rw beside.here at (read.partial.regular.ticks j i (omega arith) there);
-      called = omega (arith, rank_step beside.whole.records i there, beside.counted, e, ap (λ q. is_call q.event) beside.here);
+      here = ap (λ q. q.tick) told.here;
+      begins = λ j l. rw told.here at (beside.batched.begins told.there fresh j l);
+      counted = told.counted;
+      same = λ j l. rw told.here at (read.partial.regular.ticks j step.index (omega arith) told.there);
+      called = omega (arith, rank_step beside.whole.records step.index told.there, told.counted, e, ap (λ q. is_call q.event) told.here);
     }
 
 module _ {log : List ℕ} {i end count tick at stop calls : ℕ} (looking : Looking log i end count tick at stop calls) where
@@ -102,11 +104,8 @@ module _ {log : List ℕ} {i end count tick at stop calls : ℕ} (looking : Look
     pub looking_fits : (at + 8 ≤ length log) × (length log ≤ max_length)
     looking_fits = (omega (arith, stood.fits, event_least (record_of records stop).event), looking.along.readable.partial.short)
 
-    pub looking_found : {number : ℕ} {d : Decoded} → d ≡ decode_at log at → d ≡ Malformed number → ⊥
-    looking_found = along_found looking.along there
-
-    pub looking_next : {t : ℕ} → t ≡ big_endian log (at + 4) 4 → t ≡ tick → {r : Record} {next c : ℕ} {d : Decoded} → d ≡ decode_at log at → d ≡ Found r next
-        → c ≡ is_call r.event → Looking log i end count tick next (stop + 1) (calls + c)
+    pub looking_next : {t : ℕ} → t ≡ big_endian log (at + 4) 4 → t ≡ tick → {r : Record} {next c : ℕ} {d : Result (Record × ℕ) Refusal} → d ≡ decode_at log at → d ≡ Ok (r, next)
+        → is_call r.event ≡ c → Looking log i end count tick next (stop + 1) (calls + c)
     looking_next read still e f call = record {
       whole = looking.whole;
       along = along_next looking.along there e f;

@@ -14,25 +14,32 @@ use Rattle.history.specs.Positions.{position_of}
 use Rattle.history.specs.Batches.{BatchOf, Batched, Beside, BatchFound, PlaceFound}
 use Rattle.history.specs.declared.batches.Batch.{Batch}
 use Rattle.history.specs.declared.batches.Place.{Place}
+use Rattle.history.specs.declared.walk.Step.{Step}
 use Rattle.history.proofs.Along.{whole_readable, whole_one}
 use Rattle.history.proofs.Batching.{start_within, call_position, return_position_lem}
 use Rattle.history.proofs.Looking.{called_few, batched_next, Looking, looking_starts, looking_fits, looking_stops}
 
-module _ {log : List ℕ} {r : Record} {next i end count : ℕ} {before : Batch} (beside : Beside log r next i end count before) where
+module _ {log : List ℕ} {step : Step} {end : ℕ} {before : Batch} (beside : Beside log step end before) where
+  abbrev i : ℕ
+  i = step.index
+
+  abbrev count : ℕ
+  count = step.called
+
+  abbrev r : Record
+  r = step.record
+
   abbrev records : List Record
   records = beside.whole.records
 
   regular : Regular records
   regular = (whole_readable beside.whole).partial.regular
 
-  there : i < length records
-  there = omega (arith, beside.within, beside.whole.counted)
-
   pub placing_called : (count ≤ i) × (i < max_records)
-  placing_called = (omega (arith, beside.counted, called_few records i (omega (arith, there))), omega (arith, regular.few, there))
+  placing_called = (omega (arith, beside.told.counted, called_few records i (omega (arith, beside.told.there))), omega (arith, regular.few, beside.told.there))
 
   sort : is_call (record_of records i).event ≡ is_call r.event
-  sort = ap (λ q. is_call q.event) beside.here
+  sort = ap (λ q. is_call q.event) beside.told.here
 
   -- what holds of the records of the log
   placed : {p : Place} → position_of records i ≡ p.position → Batched records (i + 1) p.batch → PlaceFound log i p
@@ -47,32 +54,32 @@ module _ {log : List ℕ} {r : Record} {next i end count : ℕ} {before : Batch}
 
     pub placing_few : (b.returns ≤ max_records) × (b.calls ≤ max_records)
     placing_few = (
-      omega (arith, regular.few, there, batch.returns, start_within there batch),
+      omega (arith, regular.few, beside.told.there, batch.returns, start_within beside.told.there batch),
       omega (arith, regular.few, batch.calls, batch.within, called_few records b.stop batch.within),
     )
 
     call_at : is_call r.event ≡ 1 → position_of records i ≡ b.returns + count
-    call_at c = omega (arith, beside.counted, call_position regular there batch (sort ∙ c))
+    call_at c = omega (arith, beside.told.counted, call_position regular beside.told.there batch (sort ∙ c))
 
     return_at_lem : is_call r.event ≡ 0 → position_of records i ≡ b.calls + (i - count)
-    return_at_lem c = omega (arith, beside.counted, placing_called, return_position_lem regular there batch (sort ∙ c))
+    return_at_lem c = omega (arith, beside.told.counted, placing_called, return_position_lem regular beside.told.there batch (sort ∙ c))
 
     pub placed_call : is_call r.event ≡ 1 → PlaceFound log i (record { position = b.returns + count; batch = b })
-    placed_call c = placed (call_at c) (batched_next regular there batch)
+    placed_call c = placed (call_at c) (batched_next regular beside.told.there batch)
 
     pub placed_return : is_call r.event ≡ 0 → PlaceFound log i (record { position = b.calls + (i - count); batch = b })
-    placed_return c = placed (return_at_lem c) (batched_next regular there batch)
+    placed_return c = placed (return_at_lem c) (batched_next regular beside.told.there batch)
 
   -- a record that begins a batch, where the one after it has another tick
   module _ (begins : before.stop ≤ i) (more : i + 1 < end) where
-    looking : Looking log i end count r.tick next (i + 1) (count + is_call r.event)
+    looking : Looking log i end count r.tick step.next (i + 1) (count + is_call r.event)
     looking = looking_starts beside begins refl
 
-    pub placing_fits : (next + 8 ≤ length log) × (length log ≤ max_length)
+    pub placing_fits : (step.next + 8 ≤ length log) × (length log ≤ max_length)
     placing_fits = looking_fits looking more
 
-    pub placed_alone : {t : ℕ} → t ≡ big_endian log (next + 4) 4 → (t ≡ r.tick → ⊥) → PlaceFound log i (record { position = i; batch = before })
-    placed_alone read other = placed (by (ℕ_discrete (is_call r.event) 1)) (record { inside = λ l. absurd (omega arith); begins = λ h l. (batched_next regular there (batch alone)).begins h (omega arith) })
+    pub placed_alone : {t : ℕ} → t ≡ big_endian log (step.next + 4) 4 → (t ≡ r.tick → ⊥) → PlaceFound log i (record { position = i; batch = before })
+    placed_alone read other = placed (by (ℕ_discrete (is_call r.event) 1)) (record { inside = λ l. absurd (omega arith); begins = λ h l. (batched_next regular beside.told.there (batch alone)).begins h (omega arith) })
       where
         alone : BatchFound log i (record { stop = i + 1; returns = i - count; calls = count + is_call r.event })
         alone = looking_stops looking more read other

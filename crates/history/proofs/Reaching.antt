@@ -1,100 +1,62 @@
 -- The loop that fills the table, and what an answer of the reader says of the log.
-use Prim.Native.Nat.{ℕ, ◌+◌, ◌≤◌, ◌<◌}
+use Prim.Native.Nat.{ℕ, ◌+◌, ◌≤◌}
 use native.Mathlib.Omega.{arith}
 use mathlib.Core.Path.{◌≡◌, refl, sym, ap, ◌∙◌}
 use mathlib.Core.List.{List}
 use lib.ListN.{length}
-use Rattle.record.specs.Record.{decode_at}
+use Rattle.std.specs.Prelude.{Result, Ok, Err}
 use Rattle.record.specs.declared.record.Record.{Record}
-use Rattle.record.specs.declared.record.Decoded.{Decoded}
-use Rattle.record.specs.declared.record.Decoded.TheVariants.{Found, Malformed}
-use Rattle.map.proofs.Laws.{new_keys, new_chains}
-use Rattle.reader.specs.Log.{header_length, max_records, read_log, checked}
-use Rattle.reader.specs.declared.log.Checked.{Checked}
-use Rattle.reader.specs.declared.log.Checked.TheVariants.{Readable, Refused}
+use Rattle.record.specs.declared.refusal.Refused.{Refused}
+use Rattle.reader.specs.Log.{read_log, checked}
+use Rattle.reader.specs.declared.log.Counts.{Counts}
 use Rattle.reader.proofs.Laws.{checked_readable, checked_refused}
-use Rattle.reader.specs.Readable.{Regular}
 use Rattle.history.specs.Batches.{Batched, Beside, PlaceFound}
 use Rattle.history.specs.declared.batches.Batch.{Batch}
 use Rattle.history.specs.declared.batches.Place.{Place}
 use Rattle.history.specs.Table.{table_length, Filled, Room, Noted, Tabulated, Whole}
-use Rattle.history.proofs.Along.{Along, along_start, along_found, along_here, along_next}
+use Rattle.history.specs.Walks.{Stepped}
+use Rattle.history.specs.declared.walk.Step.{Step}
+use Rattle.history.specs.declared.walk.Walk.{Walk}
+use Rattle.history.proofs.Walking.{Keeping, keeping_whole, keeping_few, keeping_ends, keeping_told, keeping_next}
 use Rattle.history.proofs.Looking.{batched_none}
 use Rattle.history.proofs.Filling.{filled_none, filled_all}
-use Rattle.history.proofs.Tracing.{traced_room}
 
--- The loop of `fill` has come to record i.
-pub record Reached (log : List ℕ) (size : ℕ) (old callers chains table : List ℕ) (at count : ℕ) (batch : Batch) (i : ℕ) : Type 0 where
-  -- of a readable log, which stands at this offset
-  pub whole : Whole log size
-  pub along : Along log whole.records at i
-  -- the tables hold the records before it
-  pub filled : Filled whole.records old i count callers chains table
-  -- and it is in this batch, or begins another
-  pub batched : Batched whole.records i batch
+-- What the loop of `fill` keeps: the table holds the first n records, and the next one is in this batch, or begins another.
+abbrev pub Reached : List ℕ → List ℕ → Batch → List Record → ℕ → Type 0
+Reached old table batch records n = Filled records old n table × Batched records n batch
 
-pub reached_start : {log : List ℕ} {size : ℕ} → Whole log size → (table : List ℕ) → length table ≡ table_length
-    → Reached log size table new_keys new_chains table header_length 0 (record { stop = 0; returns = 0; calls = 0 }) 0
-reached_start whole table t =
-    record { whole = whole; along = along_start whole; filled = filled_none whole.records table t; batched = batched_none whole.records }
+pub reached_start : (table : List ℕ) → length table ≡ table_length → (records : List Record) → Reached table table (record { stop = 0; returns = 0; calls = 0 }) records 0
+reached_start table t records = (filled_none records table t, batched_none records)
 
-module _ {log : List ℕ} {size : ℕ} {old callers chains table : List ℕ} {at count : ℕ} {before : Batch} {i : ℕ} (reached : Reached log size old callers chains table at count before i)
-    (l : i < size) where
-  abbrev records : List Record
-  records = reached.whole.records
+module _ {log : List ℕ} {size : ℕ} {old table : List ℕ} {batch : Batch} {walk : Walk} (reached : Keeping log size (Reached old table batch) walk) where
+  pub reached_end : walk.records ≤ walk.index → Tabulated (read_log log) old table
+  reached_end l = let whole = keeping_whole reached in rw whole.reads (filled_all (keeping_ends reached l whole.records whole.reads).0)
 
-  below : i < length records
-  below = omega (arith, reached.whole.counted)
+  module _ {step : Step} {walk' : Walk} (stepped : Stepped walk step walk') where
+    -- there is room for what the step tells
+    pub reached_room : Room step (size + 1) table
+    reached_room =
+        let whole = keeping_whole reached in
+        let told = keeping_told reached stepped whole.records whole.reads in
+        record { end_small = omega (arith, keeping_few reached); owner_small = stepped.owner_small; table_sized = told.1.0.table_sized }
 
-  regular : Regular records
-  regular = reached.along.readable.partial.regular
+    -- and the position of its record can be found
+    pub reached_beside : Beside log step size batch
+    reached_beside =
+        let whole = keeping_whole reached in
+        let told = keeping_told reached stepped whole.records whole.reads in
+        record { whole = whole; told = told.0; batched = told.1.1 }
 
-  -- there is a record
-  pub reached_found : {number : ℕ} {d : Decoded} → d ≡ decode_at log at → d ≡ Malformed number → ⊥
-  reached_found = along_found reached.along below
-
-  -- and room for what it says
-  pub reached_small : size ≤ max_records
-  reached_small = omega (arith, regular.few, reached.whole.counted)
-
-  pub reached_room : Room count (size + 1) callers chains table
-  reached_room = record {
-    end_small = omega (arith, reached_small);
-    callers_room = traced_room below regular.few reached.filled.traced;
-    table_sized = reached.filled.table_sized;
-  }
-
-  module _ {r : Record} {next : ℕ} {d : Decoded} (e : d ≡ decode_at log at) (f : d ≡ Found r next) where
-    -- its position can be found
-    pub reached_beside : Beside log r next i size count before
-    reached_beside = record {
-      whole = reached.whole;
-      within = l;
-      here = along_here reached.along below e f;
-      stands = (along_next reached.along below e f).stands;
-      counted = reached.filled.traced.counted;
-      batched = reached.batched;
-    }
-
-    pub reached_next : {p : Place} → PlaceFound log i p → {count' : ℕ} {callers' chains' table' : List ℕ} → Noted r p.position count (size + 1) callers chains table count' callers' chains' table'
-        → Reached log size old callers' chains' table' next count' p.batch (i + 1)
-    reached_next found noted = record {
-      whole = reached.whole;
-      along = along_next reached.along below e f;
-      filled = noted.kept records old i regular (ap (λ n. n + 1) reached.whole.counted) below (along_here reached.along below e f) (found.at records reached.whole.reads) reached.filled;
-      batched = found.batched records reached.whole.reads;
-    }
-
-pub reached_end : {log : List ℕ} {size : ℕ} {old callers chains table : List ℕ} {at count : ℕ} {batch : Batch} {i : ℕ} → Reached log size old callers chains table at count batch i → size ≤ i → Tabulated (read_log log) old table
-reached_end {log} {i = i} reached l =
-    let last : i ≡ length reached.whole.records = omega (arith, reached.along.within, reached.whole.counted) in
-    rw reached.whole.reads (filled_all (rw last at reached.filled))
+    pub reached_next : {p : Place} → PlaceFound log step.index p → {table' : List ℕ} → Noted step p.position (size + 1) table table'
+        → Keeping log size (Reached old table' p.batch) walk'
+    reached_next found noted = keeping_next reached stepped (λ records reads regular counted told before.
+        (noted.kept records old regular (ap (λ n. n + 1) counted) told (found.at records reads) before.0, found.batched records reads))
 
 -- what the answer of a check says of the log, and of the table that is then left alone
-pub whole_log : {log : List ℕ} {answer : Checked} {n m : ℕ} → answer ≡ checked (read_log log) → answer ≡ Readable n m → Whole log n
+pub whole_log : {log : List ℕ} {answer : Result Counts Refused} {counts : Counts} → answer ≡ checked (read_log log) → answer ≡ Ok counts → Whole log counts.records
 whole_log {log} e f =
     let read = checked_readable (read_log log) (sym e ∙ f) in
     record { records = read.0; reads = read.1; counted = read.2 }
 
-pub left_alone : (log : List ℕ) {answer : Checked} {number index : ℕ} → answer ≡ checked (read_log log) → answer ≡ Refused number index → (table : List ℕ) → Tabulated (read_log log) table table
+pub left_alone : (log : List ℕ) {answer : Result Counts Refused} {r : Refused} → answer ≡ checked (read_log log) → answer ≡ Err r → (table : List ℕ) → Tabulated (read_log log) table table
 left_alone log e f table = rw (checked_refused (read_log log) (sym e ∙ f)) refl

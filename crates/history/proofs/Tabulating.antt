@@ -4,11 +4,12 @@ use native.Mathlib.Omega.{arith}
 use mathlib.Core.Path.{◌≡◌, sym, ap, ◌∙◌}
 use mathlib.Core.List.{List}
 use lib.ListN.{length}
+use Rattle.std.specs.Prelude.{Result, Ok}
 use Rattle.record.specs.declared.record.Record.{Record}
 use Rattle.reader.specs.Log.{max_records, readable, read_log, checked, operations}
 use Rattle.reader.specs.Readable.{Within}
-use Rattle.reader.specs.declared.log.Checked.{Checked}
-use Rattle.reader.specs.declared.log.Checked.TheVariants.{Readable}
+use Rattle.reader.specs.declared.log.Counts.{Counts}
+use Rattle.record.specs.declared.refusal.Refused.{Refused}
 use Rattle.reader.proofs.Laws.{within, checked_readable, few_operations}
 use Rattle.history.specs.History.{History}
 use Rattle.history.specs.Operations.{history_of}
@@ -28,7 +29,8 @@ tabled_same : (table : List ℕ) (h : History) {count m end n : ℕ} → count �
 tabled_same table h o l agree = rw (← o, ← l) agree
 
 -- a log that is checked and found readable is tabulated
-pub log_tabled : (log : List ℕ) {answer : Checked} {size count : ℕ} → answer ≡ checked (read_log log) → answer ≡ Readable size count → (before table : List ℕ) → Tabulated (read_log log) before table → Tabled log count size table
+pub log_tabled : (log : List ℕ) {answer : Result Counts Refused} {counts : Counts} → answer ≡ checked (read_log log) → answer ≡ Ok counts → (before table : List ℕ) → Tabulated (read_log log) before table
+    → Tabled log counts.operations counts.records table
 log_tabled log e f before table tabulated =
     let (records, reads, ended, counted) = checked_readable (read_log log) (sym e ∙ f) in
     let small : Within (readable records) = rw reads at (within log) in
@@ -45,7 +47,8 @@ log_tabled log e f before table tabulated =
     }
 
 -- the same as contracts say it
-pub table_of : {log : List ℕ} {answer : Checked} {n m : ℕ} (before : List ℕ) {table : List ℕ} → answer ≡ checked (read_log log) → answer ≡ Readable n m → Tabulated (read_log log) before table → TableOf log n m table
+pub table_of : {log : List ℕ} {answer : Result Counts Refused} {counts : Counts} (before : List ℕ) {table : List ℕ} → answer ≡ checked (read_log log) → answer ≡ Ok counts → Tabulated (read_log log) before table
+    → TableOf log counts.records counts.operations table
 table_of {log} before {table} e f tabulated =
     let t = log_tabled log e f before table tabulated in
     record { whole = record { records = t.records; reads = t.reads; counted = t.ended }; counted = t.counted; agree = t.agree }

@@ -3,9 +3,11 @@
 use Rattle.std.specs.Prelude.{ℕ, ◌+◌, ◌≤◌, ◌<◌, ◌≡◌, ◌↔◌, List, length, take}
 use Rattle.record.specs.declared.record.Record.{Record}
 use Rattle.reader.specs.Log.{readable, read_log, operations}
-use Rattle.reader.specs.Readable.{record_of, offset_of}
+use Rattle.reader.specs.Readable.{record_of}
 use Rattle.history.specs.Positions.{position_of}
 use Rattle.history.specs.Table.{Whole}
+use Rattle.history.specs.Steps.{StepOf}
+use Rattle.history.specs.declared.walk.Step.{Step}
 use Rattle.history.specs.declared.batches.Batch.{Batch}
 use Rattle.history.specs.declared.batches.Place.{Place}
 
@@ -25,14 +27,11 @@ pub record Batched (records : List Record) (i : ℕ) (b : Batch) : Type 0 where
   pub inside : i < b.stop → BatchOf records i b
   pub begins : i < length records → b.stop ≤ i → (j : ℕ) → j < i → (record_of records j).tick < (record_of records i).tick
 
--- Record i of a readable log is r, the next one stands at `next`, so many operations are called before it, and this is a batch before it.
-pub record Beside (log : List ℕ) (r : Record) (next i end count : ℕ) (before : Batch) : Type 0 where
+-- This step has come to a record of a readable log, and this is a batch before it.
+pub record Beside (log : List ℕ) (step : Step) (end : ℕ) (before : Batch) : Type 0 where
   pub whole : Whole log end
-  pub within : i < end
-  pub here : record_of whole.records i ≡ r
-  pub stands : next ≡ offset_of whole.records (i + 1)
-  pub counted : count ≡ operations (take i whole.records)
-  pub batched : Batched whole.records i before
+  pub told : StepOf whole.records step
+  pub batched : Batched whole.records step.index before
 
 pub record BatchFound (log : List ℕ) (i : ℕ) (b : Batch) : Type 0 where
   pub found : (records : List Record) → read_log log ≡ readable records → BatchOf records i b

@@ -9,6 +9,8 @@ pub mod Sheet
 pub mod Each
 pub mod Runs
 pub mod Owners
+pub mod Steps
 pub mod Table
+pub mod Walks
 pub mod Batches
 pub mod Answers

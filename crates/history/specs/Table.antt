@@ -1,14 +1,15 @@
 -- What the code keeps of a history: a table of numbers, four for each operation. What a history is can be understood without this file.
-use Rattle.std.specs.Prelude.{ℕ, ◌+◌, ◌*◌, ◌≤◌, ◌<◌, ◌≡◌, List, length, get_or}
+use Rattle.std.specs.Prelude.{ℕ, ◌+◌, ◌*◌, ◌≤◌, ◌<◌, ◌≡◌, List, length, get_or, take}
 use Rattle.record.specs.declared.record.Event.{Event}
 use Rattle.record.specs.declared.record.Event.TheVariants.{CallRemove}
 use Rattle.record.specs.declared.record.Record.{Record}
-use Rattle.reader.specs.Log.{Reading, readable, refused, read_log, operations}
+use Rattle.reader.specs.Log.{max_records, Reading, readable, refused, read_log, operations}
 use Rattle.reader.specs.Readable.{record_of, Regular}
 use Rattle.history.specs.History.{History}
 use Rattle.history.specs.Positions.{max_positions, position_of, end_of}
 use Rattle.history.specs.Operations.{call_index, return_index, kind_by, value_by, history_of}
-use Rattle.history.specs.Owners.{Traced, CallersRoom}
+use Rattle.history.specs.Steps.{StepOf}
+use Rattle.history.specs.declared.walk.Step.{Step}
 
 abbrev pub fields : ℕ
 fields = 4
@@ -56,7 +57,7 @@ pub record HistoryHeld (records : List Record) (before after : List ℕ) : Type 
 -- the table after a log was read: it holds its history, or is as it was if the log is refused
 abbrev pub Tabulated : Reading → List ℕ → List ℕ → Type 0
 Tabulated (readable records) before after = HistoryHeld records before after
-Tabulated (refused number index) before after = after ≡ before
+Tabulated (refused refusal index) before after = after ≡ before
 
 -- Operation o has this entry.
 pub record Entry (table : List ℕ) (o kind value call ret : ℕ) : Type 0 where
@@ -81,28 +82,27 @@ Told records table o return ret =
     (position_of records (call_index records o))
     ret
 
--- The tables hold what the first n records say: of each operation called by then its client and its call, its kind, value and
--- return if it has returned by then, and otherwise what its call alone says.
-pub record Filled (records : List Record) (old : List ℕ) (n count : ℕ) (callers chains table : List ℕ) : Type 0 where
-  pub traced : Traced records n count callers chains
+-- The table holds what the first n records say: of each operation called by then its kind, its value and its return if it has returned by then,
+-- and otherwise what its call alone says.
+pub record Filled (records : List Record) (old : List ℕ) (n : ℕ) (table : List ℕ) : Type 0 where
   pub table_sized : length table ≡ table_length
-  pub untouched : Untouched count old table
-  pub returned : (o : ℕ) → o < count → return_index records (call_index records o) < n
+  pub untouched : Untouched (operations (take n records)) old table
+  pub returned : (o : ℕ) → o < operations (take n records) → return_index records (call_index records o) < n
       → Told records table o (record_of records (return_index records (call_index records o))).event
       (position_of records (return_index records (call_index records o)))
-  pub pending : (o : ℕ) → o < count → n ≤ return_index records (call_index records o) → Told records table o CallRemove (end_of records)
+  pub pending : (o : ℕ) → o < operations (take n records) → n ≤ return_index records (call_index records o) → Told records table o CallRemove (end_of records)
 
--- There is room for one record more.
-pub record Room (count end : ℕ) (callers chains table : List ℕ) : Type 0 where
+-- There is room for what a step tells.
+pub record Room (step : Step) (end : ℕ) (table : List ℕ) : Type 0 where
   pub end_small : end ≤ max_positions
-  pub callers_room : CallersRoom count callers chains
+  pub owner_small : step.operation < max_records
   pub table_sized : length table ≡ table_length
 
--- The tables hold one record more, r, which stands at this position.
-pub record Noted (r : Record) (at count end : ℕ) (callers chains table : List ℕ) (count' : ℕ) (callers' chains' table' : List ℕ) : Type 0 where
-  pub kept : (records : List Record) (old : List ℕ) (n : ℕ) → Regular records → end_of records ≡ end
-      → n < length records → record_of records n ≡ r → position_of records n ≡ at
-      → Filled records old n count callers chains table → Filled records old (n + 1) count' callers' chains' table'
+-- The table holds one record more, that of this step, which stands at this position.
+pub record Noted (step : Step) (at end : ℕ) (table table' : List ℕ) : Type 0 where
+  pub kept : (records : List Record) (old : List ℕ) → Regular records → end_of records ≡ end
+      → StepOf records step → position_of records step.index ≡ at
+      → Filled records old step.index table → Filled records old (step.index + 1) table'
 
 -- A log that is readable, of so many records.
 pub record Whole (log : List ℕ) (count : ℕ) : Type 0 where

@@ -3,8 +3,9 @@
 ghost use Rattle.history.specs.Batches.{Beside, BatchFound, PlaceFound};
 
 use crate::owners::is_call;
+use crate::walk::Step;
 use record::number::be32;
-use record::record::{Decoded, Record, TICK, decode_at};
+use record::record::{TICK, decode_at};
 
 // Where a batch ends, how many returns stand before it, and how many calls up to its end.
 #[derive(Drop)]
@@ -21,84 +22,52 @@ pub struct Place {
     pub batch: Batch,
 }
 
-// The batch of the record with an index, r, which ends at `next`: that of the record before it, or a new one. Records are looked at ahead while they
-// have its tick.
-fn batch_of(
-    log: &[u8],
-    r: Record,
-    next: usize,
-    index: usize,
-    end: usize,
-    count: usize,
-    before: Batch,
-) -> Batch
-    requires { Beside log.now r next index end count before }
-    ensures { BatchFound log.now index result }
+// The batch of a step's record: that of the record before it, or a new one. Records are looked at ahead while they have its tick.
+fn batch_of(log: &[u8], step: Step, end: usize, before: Batch) -> Batch
+    requires { Beside log.now step end before }
+    ensures { BatchFound log.now step.index result }
 {
-    if index < before.stop {
+    if step.index < before.stop {
         return before;
     }
-    let tick = r.tick;
-    let event = r.event;
-    let mut at = next;
-    let mut stop = index + 1;
-    let mut calls = count + is_call(event);
+    let tick = step.record.tick;
+    let mut at = step.next;
+    let mut stop = step.index + 1;
+    let mut calls = step.called + is_call(step.record.event) as usize;
     while stop < end && be32(log, at + TICK) == tick {
-        match decode_at(log, at) {
-            // A readable log has a record here.
-            Decoded::Malformed(_) => {
-                return before;
-            }
-            Decoded::Found { record, next } => {
-                let event = record.event;
-                calls += is_call(event);
-                at = next;
-            }
-        }
+        let (record, next) = decode_at(log, at).unwrap();
+        calls += is_call(record.event) as usize;
+        at = next;
         stop += 1;
     }
     Batch {
         stop,
-        returns: index - count,
+        returns: step.index - step.called,
         calls,
     }
 }
 
-// Finds the position of the record with an index, before which so many operations are called. Alone in its tick, a record stands at its index. Of
-// others a call stands behind the calls before it and the returns before its batch, a return behind the returns before it and the calls up to the
-// end of its batch.
-pub(crate) fn place_of(
-    log: &[u8],
-    r: Record,
-    next: usize,
-    index: usize,
-    end: usize,
-    count: usize,
-    before: Batch,
-) -> Place
-    requires { Beside log.now r next index end count before }
-    ensures { PlaceFound log.now index result }
+// Finds the position of a step's record. Alone in its tick, a record stands at its index. Of others a call stands behind the calls before it and the
+// returns before its batch, a return behind the returns before it and the calls up to the end of its batch.
+pub(crate) fn place_of(log: &[u8], step: Step, end: usize, before: Batch) -> Place
+    requires { Beside log.now step end before }
+    ensures { PlaceFound log.now step.index result }
 {
-    if before.stop <= index {
-        if index + 1 < end {
-            if be32(log, next + TICK) != r.tick {
-                return Place {
-                    position: index as u32,
-                    batch: before,
-                };
-            }
-        }
-    }
-    let batch = batch_of(log, r, next, index, end, count, before);
-    let event = r.event;
-    if is_call(event) == 0 {
+    let index = step.index;
+    if before.stop <= index && index + 1 < end && be32(log, step.next + TICK) != step.record.tick {
         return Place {
-            position: (batch.calls + (index - count)) as u32,
-            batch,
+            position: index as u32,
+            batch: before,
         };
     }
+    let batch = batch_of(log, step, end, before);
+    let position = if is_call(step.record.event) {
+        batch.returns + step.called
+    } else {
+        batch.calls + (index - step.called)
+    };
     Place {
-        position: (batch.returns + count) as u32,
+        position: position as u32,
         batch,
     }
 }

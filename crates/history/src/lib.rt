@@ -6,3 +6,4 @@ pub mod fill;
 pub mod operations;
 pub mod owners;
 pub mod sheet;
+pub mod walk;

@@ -5,7 +5,8 @@ ghost use Rattle.reader.specs.Log.{max_records, read_log, checked};
 ghost use Rattle.history.specs.Table.{table_length, kind_at, value_at, call_at, return_at, Tabulated};
 
 use crate::fill::fill;
-use reader::log::{Checked, check};
+use reader::log::{Counts, check};
+use record::refusal::Refused;
 
 // The kinds of an operation.
 pub const ADD: u32 = 1;
@@ -66,21 +67,11 @@ pub fn return_of(table: &Operations, o: usize) -> u32
 }
 
 // Checks a log and, if it is readable, fills the table with its operations.
-pub fn tabulate(log: &[u8], table: &mut Operations) -> Checked
+pub fn tabulate(log: &[u8], table: &mut Operations) -> Result<Counts, Refused>
     requires { length table.old ≡ table_length }
     ensures { (result ≡ checked (read_log log.now)) × Tabulated (read_log log.now) table.old table.new }
 {
-    match check(log) {
-        Checked::Refused { number, index } => Checked::Refused { number, index },
-        Checked::Readable {
-            records,
-            operations,
-        } => {
-            fill(log, records, table);
-            Checked::Readable {
-                records,
-                operations,
-            }
-        }
-    }
+    let counts = check(log)?;
+    fill(log, counts.records, table);
+    Ok(counts)
 }

@@ -1,47 +1,29 @@
 // The operation of a record, found as the records of a log are read one after the other. What it is is said in specs/Operations.antt, what
 // the code keeps to find it in specs/Owners.antt.
-ghost use Rattle.std.specs.Prelude.{◌≡◌};
-ghost use Rattle.reader.specs.Log.{is_call};
-ghost use Rattle.history.specs.Owners.{CallersRoom, Owned};
+ghost use Rattle.std.specs.Prelude.{◌≡◌, ◌<◌, if◌then◌else◌};
+ghost use Rattle.reader.specs.Log.{is_call, max_records};
+ghost use Rattle.history.specs.Owners.{Owned};
 
-use map::map::{Chains, Keys, find, push};
+use map::map::Map;
 use record::record::{Event, Record};
 
-// The operation of a record, and how many operations the records up to it call.
-#[derive(Drop)]
-pub struct Owner {
-    pub operation: usize,
-    pub count: usize,
-}
-
-// 1 for a call, 0 for a return.
-pub fn is_call(event: Event) -> usize
-    ensures { result ≡ is_call event }
+// Whether an event is a call.
+pub fn is_call(event: Event) -> bool
+    ensures { is_call event ≡ (if result then 1 else 0) }
 {
-    match event {
-        Event::CallAdd(_) => 1,
-        Event::CallRemove => 1,
-        Event::ReturnAdd => 0,
-        Event::ReturnRemove(_) => 0,
-    }
+    matches!(event, Event::CallAdd(_) | Event::CallRemove)
 }
 
 // Finds the operation of a record: a return's is the latest one of its client, and a call's is a new one, whose caller is then noted.
-pub fn owner_of(r: Record, count: usize, callers: &mut Keys, chains: &mut Chains) -> Owner
-    requires { CallersRoom count callers.old chains.old }
-    ensures { Owned r count callers.old chains.old result callers.new chains.new }
+pub fn owner_of(r: Record, callers: &mut Map) -> usize
+    requires { callers.old.count < max_records }
+    ensures { Owned r callers.old result callers.new }
 {
     let client = r.client as u32;
-    let event = r.event;
-    if is_call(event) == 0 {
-        return Owner {
-            operation: find(callers, chains, count, client),
-            count,
-        };
+    let count = callers.count;
+    if is_call(r.event) {
+        callers.push(client);
+        return count;
     }
-    push(callers, chains, count, client);
-    Owner {
-        operation: count,
-        count: count + 1,
-    }
+    callers.find(client).unwrap_or(count)
 }

@@ -23,10 +23,8 @@ pub fn write_sheet(verdict: u32, listed: &[u32], sheet: &mut [u8])
     sheet[0] = VERSION;
     sheet[1] = verdict as u8;
     put16(listed.len(), 2, sheet);
-    let mut i = 0;
-    while i < listed.len() {
-        put16(listed[i] as usize, SHEET_HEADER + 2 * i, sheet);
-        i += 1;
+    for (i, &o) in listed.iter().enumerate() {
+        put16(o as usize, SHEET_HEADER + 2 * i, sheet);
     }
 }
 

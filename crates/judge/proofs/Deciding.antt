@@ -1,30 +1,25 @@
 -- An order that the search finds, and the first violation, are the verdict on the history in the table as it stands, and the verdict if it is an order or
 -- every remove has returned.
-use Prim.Native.Nat.{ℕ, ◌≤◌}
+use Prim.Native.Nat.{ℕ}
 use native.Mathlib.Omega.{arith}
-use mathlib.Core.Path.{◌≡◌}
+use mathlib.Core.Path.{◌≡◌, refl}
 use mathlib.Core.List.{List}
-use lib.ListN.{length, take}
-use Rattle.reader.specs.Log.{max_records}
+use lib.ListN.{take}
 use Rattle.history.specs.Object.{Queue}
 use Rattle.history.specs.History.{History, no_kind, RemovesReturned}
 use Rattle.history.specs.Sheet.{order_verdict}
 use Rattle.history.specs.Table.{kind_at, tabled}
-use Rattle.violations.specs.Violations.{NoViolation}
 use Rattle.violations.specs.Verdict.{FirstViolation, CompleteVerdict, Verdict}
 use Rattle.violations.specs.Fates.{left_out}
 use Rattle.violations.proofs.Laws.{occurs_numbered, complete_zero, complete_pattern, complete_is_verdict}
 use Rattle.matching.specs.Answers.{First}
 use Rattle.matching.proofs.Firsts.{none_found}
-use Rattle.search.specs.Order.{OrderListed, Ordered}
-use Rattle.search.specs.declared.order.Ended.{Ended}
-use Rattle.search.specs.declared.order.Ended.TheVariants.{Whole, Short}
+use Rattle.search.specs.Order.{OrderListed}
+use Rattle.patterns.specs.declared.pattern.Pattern.{Pattern}
+use Rattle.patterns.specs.Pattern.{number_of}
 use Rattle.patterns.specs.Finding.{PatternListed}
-use Rattle.judge.specs.Decision.{CompleteDecided, Decided, FateTried}
-
--- what is known where the search stops short
-pub ordered_short : (h : History) (list : List ℕ) {ended : Ended} → ended ≡ Short → Ordered h ended list → (length list ≡ max_records) × (NoViolation Queue h → ⊥)
-ordered_short h list e ordered = rw e at ordered
+use Rattle.patterns.proofs.Numbered.{numbered}
+use Rattle.judge.specs.Decision.{CompleteDecided, Decided}
 
 -- an order that the search finds is decided
 pub decided_order : {h : History} {k : ℕ} {list : List ℕ} → OrderListed h k list → CompleteDecided h order_verdict k list
@@ -64,24 +59,19 @@ module _ {h : History} {byte k : ℕ} {list : List ℕ} (decided : CompleteDecid
   pub pattern_listed : (byte ≡ order_verdict → ⊥) → PatternListed h byte k list
   pattern_listed n = record { sized = decided.sized; within = decided.within; first = complete_pattern decided.verdict n }
 
+-- by its number
+pub pattern_stands : {h : History} (pattern : Pattern) {k : ℕ} {list : List ℕ} → CompleteDecided h (number_of pattern) k list → PatternListed h (number_of pattern) k list
+pattern_stands pattern decided = pattern_listed decided (λ e. omega (arith, numbered pattern))
+
 -- a pattern that is the verdict is decided
 pattern_decided : {h : History} {byte k : ℕ} {list : List ℕ} → PatternListed h byte k list → Verdict Queue h byte (take k list) → Decided h byte k list
 pattern_decided pattern verdict = record { sized = pattern.sized; within = pattern.within; verdict = verdict; chosen = no_order pattern.first }
 
 -- so it is if every remove has returned
-pub returned_decided : (table : List ℕ) {count end byte k o : ℕ} {list : List ℕ} → PatternListed (tabled count end table) byte k list
-    → First (λ p. kind_at table p ≡ no_kind) count o → count ≤ o → Decided (tabled count end table) byte k list
-returned_decided table {count} {end} pattern first none =
+pub returned_decided : (table : List ℕ) {count end byte k : ℕ} {list : List ℕ} → PatternListed (tabled count end table) byte k list
+    → First (λ p. kind_at table p ≡ no_kind) count count → Decided (tabled count end table) byte k list
+returned_decided table {count} {end} pattern first =
     pattern_decided pattern (complete_is_verdict Queue returned (CompleteVerdict.violation pattern.first))
   where
     returned : RemovesReturned (tabled count end table)
-    returned p l = let kinded : kind_at table p ≡ no_kind → ⊥ = none_found first (omega (arith, first.within)) p l in omega arith
-
--- and where the fates of a remove without return are tried, an order is found or the pattern stands
-pub fate_order : {h : History} {ended : Ended} {order listed : List ℕ} {number k : ℕ} → FateTried h ended order → FirstViolation Queue h number listed → ended ≡ Whole k
-    → Decided h order_verdict k order
-fate_order tried first e = rw e at (tried.outcome first)
-
-pub fate_pattern : {h : History} {ended : Ended} {order list : List ℕ} {byte k : ℕ} → FateTried h ended order → PatternListed h byte k list → ended ≡ Short
-    → Decided h byte k list
-fate_pattern tried pattern e = pattern_decided pattern (rw e at (tried.outcome pattern.first))
+    returned p l = let kinded : kind_at table p ≡ no_kind → ⊥ = none_found first refl p l in omega arith

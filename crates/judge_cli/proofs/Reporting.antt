@@ -9,6 +9,10 @@ use lib.ListN.{length, get_or, drop, length-append}
 use lib.Seq.{drop-drop}
 use lib.Dec.{ltb}
 use borrow.Author.Tests.{le-ltb, eq-eqb, ne_eqb}
+use Rattle.std.specs.Prelude.{Option, Some, None, Result, Ok}
+use Rattle.record.specs.Refusal.{number_of, refusing}
+use Rattle.record.specs.declared.refusal.Refusal.{Refusal}
+use Rattle.record.specs.declared.refusal.Refused.{Refused}
 use Rattle.record.specs.Number.{bytes_of}
 use Rattle.record.specs.declared.record.Record.{Record}
 use Rattle.record.proofs.Numbers.{number_there}
@@ -23,9 +27,12 @@ use Rattle.history.specs.Sheet.{sheet_header, order_verdict, number_bytes, sheet
 use Rattle.history.proofs.Sheets.{sheet_length}
 use Rattle.violations.proofs.Laws.{verdict_known, verdict_small}
 use Rattle.judge.proofs.Laws.{verdict_at_most}
-use Rattle.judge.specs.Judge.{verdict_of, Judgement, Judges, judged, turned_down}
+use Rattle.patterns.specs.Pattern.{number_of as number_by}
+use Rattle.patterns.specs.declared.pattern.Pattern as patterns
+use Rattle.patterns.proofs.Numbered.{numbered}
+use Rattle.judge.specs.Judge.{byte_by, verdict_of, Judgement, Judges, judged, turned_down}
 use Rattle.judge.specs.declared.judge.Verdict.{Verdict}
-use Rattle.judge.specs.declared.judge.Verdict.TheVariants.{Refused}
+use Rattle.judge.specs.declared.judge.Verdict.TheVariants as judge
 use Rattle.judge_cli.specs.Report.{counts_line, order_line, pattern_line, verdict_line, refusal_line, Reports, Reported}
 use Rattle.judge_cli.specs.Writing.{sheet_room, report_room, counts_of, answer_line, OnSheet}
 use Rattle.judge_cli.proofs.Lines.{counts_length, order_length, pattern_length, refusal_length}
@@ -68,27 +75,21 @@ verdict_line_short byte listed l small = go (ℕ_discrete byte order_verdict)
     go (no n) = rw (ne_eqb byte order_verdict n) (omega (arith, pattern_length byte listed, decimal_few 0 byte l, spaced_short listed small))
 
 -- The line for a verdict's answer is that of the verdict, once its operations are read off the sheet.
-module _ (byte : ℕ) (listed sheet : List ℕ) (are : numbers_from sheet sheet_header (length listed) ≡ listed) where
-  answers_verdict : answer_line (verdict_of byte (length listed)) sheet ≡ verdict_line byte listed
-  answers_verdict = go (ℕ_discrete byte order_verdict)
-    where
-      go : Dec (byte ≡ order_verdict) → answer_line (verdict_of byte (length listed)) sheet ≡ verdict_line byte listed
-      go (yes e) = rw (eq-eqb byte order_verdict e) (ap order_line are)
-      go (no n) = rw (ne_eqb byte order_verdict n) (ap (pattern_line byte) are)
+module _ (listed sheet : List ℕ) (are : numbers_from sheet sheet_header (length listed) ≡ listed) where
+  answers_verdict : (found : Option patterns.Pattern) → answer_line (verdict_of found (length listed)) sheet ≡ verdict_line (byte_by found) listed
+  answers_verdict None = ap order_line are
+  answers_verdict (Some p) = rw (ne_eqb (number_by p) order_verdict (λ e. omega (arith, numbered p))) (ap (pattern_line (number_by p)) are)
 
-  verdict_on_sheet : sheet_header + 2 * length listed ≤ length sheet → OnSheet (verdict_of byte (length listed)) sheet
-  verdict_on_sheet l = go (ℕ_discrete byte order_verdict)
-    where
-      go : Dec (byte ≡ order_verdict) → OnSheet (verdict_of byte (length listed)) sheet
-      go (yes e) = rw (eq-eqb byte order_verdict e) l
-      go (no n) = rw (ne_eqb byte order_verdict n) l
+  verdict_on_sheet : (found : Option patterns.Pattern) → sheet_header + 2 * length listed ≤ length sheet → OnSheet (verdict_of found (length listed)) sheet
+  verdict_on_sheet None l = l
+  verdict_on_sheet (Some p) l = l
 
 -- a readable log
 readable_reports : (log : List ℕ) {records : List Record} {blank sheet : List ℕ} {answer : Verdict} → length blank ≡ sheet_room → read_log log ≡ readable records → Judgement records blank answer sheet → Reportable (readable records) answer sheet
 readable_reports log {records} {blank} {sheet} {answer} sized reads j = rw answered (record {
-  on_sheet = verdict_on_sheet j.byte j.listed sheet are (omega (arith, ap length held, length-append (sheet_of j.byte j.listed) (drop (length (sheet_of j.byte j.listed)) blank), long));
-  reports = record { byte = j.byte; listed = j.listed; verdict = j.verdict; chosen = j.chosen; lines = ap (λ l. counts_of (readable records) ++ l) line_is };
-  fits = omega (arith, ap length line_is, few, few_operations records, counts_short (length records) (operations records) (omega (arith, few)) (omega (arith, few, few_operations records)), verdict_line_short j.byte j.listed (omega (arith, verdict_small j.verdict)) (λ i. omega (arith, known i)), short);
+  on_sheet = verdict_on_sheet j.listed sheet are j.found (omega (arith, ap length held, length-append (sheet_of (byte_by j.found) j.listed) (drop (length (sheet_of (byte_by j.found) j.listed)) blank), long));
+  reports = record { byte = byte_by j.found; listed = j.listed; verdict = j.verdict; chosen = j.chosen; lines = ap (λ l. counts_of (readable records) ++ l) line_is };
+  fits = omega (arith, ap length line_is, few, few_operations records, counts_short (length records) (operations records) (omega (arith, few)) (omega (arith, few, few_operations records)), verdict_line_short (byte_by j.found) j.listed (omega (arith, verdict_small j.verdict)) (λ i. omega (arith, known i)), short);
 })
   where
     few : length records ≤ max_records
@@ -100,34 +101,35 @@ readable_reports log {records} {blank} {sheet} {answer} sized reads j = rw answe
     known : (i : ℕ) → get_or j.listed i 0 < max_records
     known = verdict_known {h = history_of records} (omega (arith, few, few_operations records)) j.verdict
 
-    long : length (sheet_of j.byte j.listed) ≡ sheet_header + 2 * length j.listed
-    long = sheet_length j.byte j.listed
+    long : length (sheet_of (byte_by j.found) j.listed) ≡ sheet_header + 2 * length j.listed
+    long = sheet_length (byte_by j.found) j.listed
 
-    fits : ltb (length blank) (length (sheet_of j.byte j.listed)) ≡ false
-    fits = le-ltb (length blank) (length (sheet_of j.byte j.listed)) (omega (arith, long, short))
+    fits : ltb (length blank) (length (sheet_of (byte_by j.found) j.listed)) ≡ false
+    fits = le-ltb (length blank) (length (sheet_of (byte_by j.found) j.listed)) (omega (arith, long, short))
 
-    answered : answer ≡ verdict_of j.byte (length j.listed)
+    answered : answer ≡ (verdict_of j.found (length j.listed))
     answered = rw fits at j.delivers.answers
 
-    held : sheet ≡ sheet_of j.byte j.listed ++ drop (length (sheet_of j.byte j.listed)) blank
+    held : sheet ≡ sheet_of (byte_by j.found) j.listed ++ drop (length (sheet_of (byte_by j.found) j.listed)) blank
     held = rw fits at j.delivers.leaves
 
     are : numbers_from sheet sheet_header (length j.listed) ≡ j.listed
-    are = listed_read sheet j.byte j.listed _ held (λ i. omega (arith, known i))
+    are = listed_read sheet (byte_by j.found) j.listed _ held (λ i. omega (arith, known i))
 
-    line_is : answer_line (verdict_of j.byte (length j.listed)) sheet ≡ verdict_line j.byte j.listed
-    line_is = answers_verdict j.byte j.listed sheet are
+    line_is : answer_line (verdict_of j.found (length j.listed)) sheet ≡ verdict_line (byte_by j.found) j.listed
+    line_is = answers_verdict j.listed sheet are j.found
 
 -- a refused one
-refused_reports : {answer : Verdict} {sheet : List ℕ} (number index : ℕ) → Within (refused number index) → answer ≡ Refused number index → Reportable (refused number index) answer sheet
-refused_reports number index bound e = rw e (record { on_sheet = tt; reports = refl; fits = omega (arith, refusal_short number index (omega (arith, bound.1)) (omega (arith, bound.2))) })
+refused_reports : {sheet : List ℕ} (refusal : Refusal) (index : ℕ) → Within (refused refusal index) → Reportable (refused refusal index) (judge.Refused (record { refusal = refusal; index = index })) sheet
+refused_reports refusal index bound =
+    record { on_sheet = tt; reports = refl; fits = omega (arith, refusal_short (number_of refusal) index (omega (arith, bound.1)) (omega (arith, bound.2))) }
 
 pub judged_reports : (log blank : List ℕ) {answer : Verdict} {sheet : List ℕ} → length blank ≡ sheet_room → Judges (read_log log) blank answer sheet → Reportable (read_log log) answer sheet
 judged_reports log blank sized j = go (read_log log) refl (within log) sized j
   where
     go : (reading : Reading) → read_log log ≡ reading → Within reading → {blank sheet : List ℕ} {answer : Verdict} → length blank ≡ sheet_room → Judges reading blank answer sheet → Reportable reading answer sheet
     go (readable records) reads bound sized (judged j) = readable_reports log sized reads j
-    go (refused number index) reads bound sized turned_down = refused_reports number index bound refl
+    go (refused refusal index) reads bound sized turned_down = refused_reports refusal index bound
 
 -- a report that is put at the start of a buffer is written
 pub puts_report : {reading : Reading} {answer : Verdict} {sheet buffer buffer' : List ℕ} {n : ℕ} → Reportable reading answer sheet → report_room ≤ length buffer → Puts (counts_of reading ++ answer_line answer sheet) 0 buffer n buffer'

@@ -1,5 +1,6 @@
 -- What the program prints for a log. Document 01, "The program".
 use Rattle.std.specs.Prelude.{ℕ, ◌≤◌, ◌≡◌, List, [], ◌∷◌, ◌++◌, map, length, take, drop, eqb, if◌then◌else◌}
+use Rattle.record.specs.Refusal.{number_of}
 use Rattle.record.specs.declared.record.Record.{Record}
 use Rattle.text.specs.Text.{ascii, decimal, line}
 use Rattle.reader.specs.Log.{Reading, readable, refused, operations}
@@ -39,7 +40,7 @@ pub record JudgedReport (records : List Record) (text : List ℕ) : Type 0 where
 -- A text is the report of a log, as it was read.
 abbrev pub Reports : Reading → List ℕ → Type 0
 Reports (readable records) text = JudgedReport records text
-Reports (refused number index) text = text ≡ refusal_line number index
+Reports (refused refusal index) text = text ≡ refusal_line (number_of refusal) index
 
 -- The report of a log is written at the start of a buffer, n bytes. Behind them the buffer is as it was.
 pub record Reported (reading : Reading) (buffer : List ℕ) (n : ℕ) (buffer' : List ℕ) : Type 0 where

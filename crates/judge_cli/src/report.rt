@@ -9,7 +9,8 @@ ghost use Rattle.judge_cli.specs.Writing.{report_room, counts_of, listing, answe
 use history::sheet::{SHEET_HEADER, operation_at};
 use judge::judge::{Verdict, judge};
 use reader::format::MAX_RECORDS;
-use reader::log::{Checked, check};
+use reader::log::check;
+use record::refusal::Refused;
 use text::text::{end_line, put_bytes, put_field};
 
 // The sheet is always long enough: a verdict on a log lists at most as many operations as a log may have records, in two bytes each.
@@ -42,14 +43,8 @@ fn put_counts_of(text: &mut [u8], log: &[u8]) -> usize
     ensures { Puts (counts_of (read_log log.now)) 0 text.old result text.new }
 {
     match check(log) {
-        Checked::Refused {
-            number: _,
-            index: _,
-        } => 0,
-        Checked::Readable {
-            records,
-            operations,
-        } => put_counts(text, records, operations),
+        Err(_) => 0,
+        Ok(counts) => put_counts(text, counts.records, counts.operations),
     }
 }
 
@@ -59,10 +54,8 @@ fn put_listed(text: &mut [u8], at: usize, sheet: &[u8], k: usize) -> usize
     ensures { Puts (listing sheet.now k) at text.old result text.new }
 {
     let mut next = at;
-    let mut i = 0;
-    while i < k {
+    for i in 0..k {
         next = put_field(text, next, operation_at(sheet, i));
-        i += 1;
     }
     next
 }
@@ -106,10 +99,14 @@ fn put_answer(text: &mut [u8], at: usize, answer: Verdict, sheet: &[u8]) -> usiz
 {
     match answer {
         Verdict::Order(k) => put_order(text, at, sheet, k),
-        Verdict::Pattern { number, listed } => {
-            put_pattern(text, at, number as usize, sheet, listed)
+        Verdict::Pattern(found) => {
+            let number = found.pattern as usize;
+            put_pattern(text, at, number, sheet, found.listed)
         }
-        Verdict::Refused { number, index } => put_refusal(text, at, number as usize, index),
+        Verdict::Refused(r) => {
+            let number = r.refusal.number() as usize;
+            put_refusal(text, at, number, r.index)
+        }
     }
 }
 

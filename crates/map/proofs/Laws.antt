@@ -1,5 +1,5 @@
 -- What the crates above know of a map.
-use Prim.Native.Nat.{ℕ, ◌+◌, ◌≤◌, ◌<◌}
+use Prim.Native.Nat.{ℕ, ◌≤◌, ◌<◌}
 use native.Mathlib.Omega.{arith}
 use native.Mathlib.Decide.{dec_lt}
 use mathlib.Core.Path.{◌≡◌, sym, ◌∙◌}
@@ -8,43 +8,23 @@ use lib.ListN.{length, get_or, set, replicate, take, length-replicate}
 use lib.Seq.{get_or-take, get_or-set_same, get_or-set_other}
 use lib.Dec.{ltb}
 use borrow.Author.Tests.{lt-ltb, le-ltb}
+use Rattle.std.specs.Prelude.{Option, Some, None, is_some, unwrap_or}
 use Rattle.table.specs.Table.{is_in}
 use Rattle.table.proofs.Lists.{used, zeros, is_in_at, is_in_nowhere}
-use Rattle.map.specs.Map.{map_size, slot_count, Top, Linked, NarrowLinked, Latest}
-
--- the arrays of a new map, which has no entries
-abbrev pub new_keys : List ℕ
-new_keys = replicate map_size 0
-
-abbrev pub new_chains : List ℕ
-new_chains = replicate (slot_count + map_size) 0
+use Rattle.map.specs.Map.{map_size, Chained, Chains, Latest, Found}
 
 -- without entries no slot leads to one
-top_none : {slot_of : ℕ → ℕ} {keys : List ℕ} {slot : ℕ} → Top slot_of keys 0 slot 0
-top_none = record { within = omega arith; above = λ p b. absurd (omega arith); shares = λ some. absurd (omega arith) }
-
-pub new_linked : Linked new_keys new_chains 0
-new_linked = record {
-  within = omega arith;
-  keys_sized = length-replicate {A = ℕ} map_size 0;
-  chains_sized = length-replicate {A = ℕ} (slot_count + map_size) 0;
-  chained = record { heads = λ slot l. rw (zeros (slot_count + map_size) slot) top_none; links = λ i l. absurd (omega arith) };
+none_chained : {slot_of : ℕ → ℕ} {slots : ℕ} {keys : List ℕ} {head link : ℕ → ℕ} → ((slot : ℕ) → slot < slots → head slot ≡ 0) → Chained 0 slot_of slots keys 0 head link
+none_chained none = record {
+  heads = λ slot l. rw (none slot l) (record { within = omega arith; above = λ p b. absurd (omega arith); shares = λ some. absurd (omega arith) });
+  links = λ i l. absurd (omega arith);
 }
 
--- and the tables of a new map of narrow keys
-abbrev pub new_table : List ℕ
-new_table = replicate map_size 0
-
-pub new_narrow : NarrowLinked new_table new_table new_table 0
-new_narrow = record {
-  within = omega arith;
-  keys_sized = sized;
-  heads_sized = sized;
-  links_sized = sized;
-  chained = record { heads = λ slot l. rw (zeros map_size slot) top_none; links = λ i l. absurd (omega arith) };
-}
+-- a new map has no entries, and its chains lead to them
+pub new_linked : (slot_of : ℕ → ℕ) (slots : ℕ) → Chains 0 slot_of slots (replicate map_size 0) (replicate slots 0) (replicate map_size 0) 0
+new_linked slot_of slots = record { within = omega arith; keys_sized = sized; heads_sized = length-replicate {A = ℕ} slots 0; links_sized = sized; chained = none_chained (λ slot l. zeros slots slot) }
   where
-    sized : length new_table ≡ map_size
+    sized : length (replicate {A = ℕ} map_size 0) ≡ map_size
     sized = length-replicate {A = ℕ} map_size 0
 
 -- a key that is put in stands after those in use, which stay as they were
@@ -73,3 +53,13 @@ module _ {keys : List ℕ} {count x r : ℕ} (long : count ≤ length keys) (lat
       by : Dec (r < count) → ltb r count ≡ is_in x (take count keys)
       by (yes l) = lt-ltb r count l ∙ sym (is_in_at x (take count keys) r (omega (arith, in_use)) (at r l (latest.holds l)))
       by (no n) = le-ltb r count (omega arith) ∙ sym (is_in_nowhere x (take count keys) (λ p l e. n (below p l e).0))
+
+-- the entry that is found, or `count`, is the latest
+pub found_latest : {keys : List ℕ} {count x : ℕ} (r : Option ℕ) → Found 0 keys count x r → Latest keys count x (unwrap_or r count)
+found_latest (Some i) found = found.1
+found_latest None found = found
+
+-- and there is one exactly if x is among the keys
+pub found_is_in : (keys : List ℕ) {count : ℕ} (x : ℕ) (r : Option ℕ) → count ≤ length keys → Found 0 keys count x r → is_some r ≡ is_in x (take count keys)
+found_is_in keys x (Some i) long found = sym (lt-ltb i _ found.0) ∙ latest_is_in long found.1
+found_is_in keys {count = count} x None long found = sym (le-ltb count count (omega arith)) ∙ latest_is_in long found

@@ -1,26 +1,43 @@
 -- A map: a table of keys, of which the first `count` are in use, and chains that lead to them. What is found in it is said by the keys alone.
-use Rattle.std.specs.Prelude.{ℕ, ◌+◌, ◌-◌, ◌*◌, ◌/◌, ◌%◌, ◌≤◌, ◌<◌, ◌≡◌, List, length, get_or}
+use Rattle.std.specs.Prelude.{ℕ, ◌+◌, ◌-◌, ◌*◌, ◌/◌, ◌%◌, ◌≤◌, ◌<◌, ◌≡◌, List, length, get_or, Option, Some, None}
 
 -- as many entries as a log may have records
 abbrev pub map_size : ℕ
 map_size = 1024
 
--- r is the latest of the first `count` entries that holds x, or `count` if none does.
-pub record Latest (keys : List ℕ) (count x r : ℕ) : Type 0 where
+-- r is the latest of the first `count` entries that holds x, or `count` if none does. An entry that is not there is read as `unused`.
+pub record LatestOf {K : Type 0} (unused : K) (keys : List K) (count : ℕ) (x : K) (r : ℕ) : Type 0 where
   pub within : r ≤ count
-  pub holds : r < count → get_or keys r 0 ≡ x
-  pub last : (p : ℕ) → p < count → get_or keys p 0 ≡ x → (r < count) × (p ≤ r)
+  pub holds : r < count → get_or keys r unused ≡ x
+  pub last : (p : ℕ) → p < count → get_or keys p unused ≡ x → (r < count) × (p ≤ r)
+
+-- the same of keys that are numbers
+abbrev pub Latest : List ℕ → ℕ → ℕ → ℕ → Type 0
+Latest keys count x r = LatestOf 0 keys count x r
+
+-- What is found is the latest of the first `count` entries that holds x, and nothing if none does.
+abbrev pub Found : {K : Type 0} → K → List K → ℕ → K → Option ℕ → Type 0
+Found unused keys count x (Some r) = (r < count) × LatestOf unused keys count x r
+Found unused keys count x None = LatestOf unused keys count x count
 
 -- n is the index plus 1 of the latest of the first `count` entries that has a slot, or 0 if none has it.
-pub record Top (slot_of : ℕ → ℕ) (keys : List ℕ) (count slot n : ℕ) : Type 0 where
+pub record Top {K : Type 0} (unused : K) (slot_of : K → ℕ) (keys : List K) (count slot n : ℕ) : Type 0 where
   pub within : n ≤ count
-  pub above : (p : ℕ) → p < count → slot_of (get_or keys p 0) ≡ slot → p < n
-  pub shares : 0 < n → slot_of (get_or keys (n - 1) 0) ≡ slot
+  pub above : (p : ℕ) → p < count → slot_of (get_or keys p unused) ≡ slot → p < n
+  pub shares : 0 < n → slot_of (get_or keys (n - 1) unused) ≡ slot
 
 -- The heads lead from each slot to its latest entry, and the links from each entry to the one before it in its slot.
-pub record Chained (slot_of : ℕ → ℕ) (slots : ℕ) (keys : List ℕ) (count : ℕ) (head link : ℕ → ℕ) : Type 0 where
-  pub heads : (slot : ℕ) → slot < slots → Top slot_of keys count slot (head slot)
-  pub links : (i : ℕ) → i < count → Top slot_of keys i (slot_of (get_or keys i 0)) (link i)
+pub record Chained {K : Type 0} (unused : K) (slot_of : K → ℕ) (slots : ℕ) (keys : List K) (count : ℕ) (head link : ℕ → ℕ) : Type 0 where
+  pub heads : (slot : ℕ) → slot < slots → Top unused slot_of keys count slot (head slot)
+  pub links : (i : ℕ) → i < count → Top unused slot_of keys i (slot_of (get_or keys i unused)) (link i)
+
+-- The same of tables, which have their sizes.
+pub record Chains {K : Type 0} (unused : K) (slot_of : K → ℕ) (slots : ℕ) (keys : List K) (heads links : List ℕ) (count : ℕ) : Type 0 where
+  pub within : count ≤ map_size
+  pub keys_sized : length keys ≡ map_size
+  pub heads_sized : length heads ≡ slots
+  pub links_sized : length links ≡ map_size
+  pub chained : Chained unused slot_of slots keys count (λ slot. get_or heads slot 0) (λ i. get_or links i 0)
 
 abbrev pub slot_count : ℕ
 slot_count = 512
@@ -29,21 +46,6 @@ slot_count = 512
 abbrev pub map_slot_of : ℕ → ℕ
 map_slot_of x = x * 2654435761 / 8388608 % slot_count
 
--- The chains hold the heads of the slots, and after them the links.
-pub record Linked (keys chains : List ℕ) (count : ℕ) : Type 0 where
-  pub within : count ≤ map_size
-  pub keys_sized : length keys ≡ map_size
-  pub chains_sized : length chains ≡ slot_count + map_size
-  pub chained : Chained map_slot_of slot_count keys count (λ slot. get_or chains slot 0) (λ i. get_or chains (slot_count + i) 0)
-
 -- the slot of a narrow key, one of 16 bits: the ten low bits of the sum of the key and its six high bits
 abbrev pub narrow_slot_of : ℕ → ℕ
 narrow_slot_of x = (x + x / map_size) % map_size
-
--- A map of narrow keys, with its heads and its links in tables of their own: there are as many slots as entries.
-pub record NarrowLinked (keys heads links : List ℕ) (count : ℕ) : Type 0 where
-  pub within : count ≤ map_size
-  pub keys_sized : length keys ≡ map_size
-  pub heads_sized : length heads ≡ map_size
-  pub links_sized : length links ≡ map_size
-  pub chained : Chained narrow_slot_of map_size keys count (λ slot. get_or heads slot 0) (λ i. get_or links i 0)

@@ -1,19 +1,15 @@
-// A map: a table of keys, of which the first `count` are in use, and chains of those that share a slot, so that a key is found without a search
-// through all of them. specs/Map.antt says what the chains hold.
+// A map of keys of 32 bits.
 ghost use Rattle.std.specs.Prelude.{◌≡◌, ◌+◌, ◌<◌, set};
-ghost use Rattle.map.specs.Map.{slot_count, map_size, map_slot_of, Linked, Latest};
+ghost use Rattle.std.proofs.lemmas.Bool.{eqb-true};
+ghost use Rattle.map.specs.Map.{slot_count, map_size, map_slot_of, Chains, Found};
+
+use crate::chain;
+use crate::chain::Key;
 
 // As many entries as a log may have records.
-pub const KEYS: usize = 1024;
-
-pub type Keys = [u32; KEYS];
+const KEYS: usize = 1024;
 
 const SLOTS: usize = 512;
-
-pub const CHAINS: usize = SLOTS + KEYS;
-
-// For each slot its latest entry, then for each entry the one before it in its slot: the entry's index plus 1, or 0 for none.
-pub type Chains = [u16; CHAINS];
 
 // A prime near 2^32 divided by the golden ratio.
 const FACTOR: u64 = 2654435761;
@@ -21,36 +17,62 @@ const FACTOR: u64 = 2654435761;
 // 2^23: the slot is the nine bits above.
 const CUT: u64 = 8388608;
 
-// The slot of a key: bits 23 to 31 of its product with the factor, in which keys that are close to each other differ.
-fn slot_of(x: u32) -> usize
-    ensures { (result ≡ map_slot_of x) × (result < slot_count) }
-{
-    (x as u64 * FACTOR / CUT) as usize % SLOTS
-}
+impl Key for u32 {
+    ghost slots = { slot_count };
 
-// The latest entry that holds x, or `count` where there is none.
-pub fn find(keys: &Keys, chains: &Chains, count: usize, x: u32) -> usize
-    requires { Linked keys.now chains.now count }
-    ensures { Latest keys.now count x result }
-{
-    let mut next = chains[slot_of(x)];
-    while 0 < next {
-        let i = next as usize - 1;
-        if keys[i] == x {
-            return i;
-        }
-        next = chains[SLOTS + i];
+    ghost slot_of = { map_slot_of };
+
+    ghost unused = { 0 };
+
+    ghost same = { eqb-true };
+
+    // Bits 23 to 31 of the product with the factor, in which keys that are close to each other differ.
+    fn slot(self) -> usize {
+        (self as u64 * FACTOR / CUT) as usize % SLOTS
     }
-    count
 }
 
-// Puts x after the entries in use.
-pub fn push(keys: &mut Keys, chains: &mut Chains, count: usize, x: u32)
-    requires { (count < map_size) × Linked keys.old chains.old count }
-    ensures { (keys.new ≡ set keys.old count x) × Linked keys.new chains.new (count + 1) }
-{
-    let slot = slot_of(x);
-    chains[SLOTS + count] = chains[slot];
-    chains[slot] = count as u16 + 1;
-    keys[count] = x;
+// The first `count` keys are in use.
+#[derive(Drop)]
+pub struct Map {
+    pub keys: [u32; KEYS],
+    pub heads: [u16; SLOTS],
+    pub links: [u16; KEYS],
+    pub count: usize,
+    pub ghost linked: { Chains 0 map_slot_of slot_count keys heads links count },
+}
+
+impl Map {
+    pub fn new() -> Map
+        ensures { result.count ≡ 0 }
+    {
+        Map {
+            keys: [0; KEYS],
+            heads: [0; SLOTS],
+            links: [0; KEYS],
+            count: 0,
+        }
+    }
+
+    // The latest entry that holds x.
+    pub fn find(&self, x: u32) -> Option<usize>
+        ensures { Found 0 self.now.keys self.now.count x result }
+    {
+        chain::find(&self.keys, &self.heads, &self.links, self.count, x)
+    }
+
+    // Puts x after the entries in use.
+    pub fn push(&mut self, x: u32)
+        requires { self.old.count < map_size }
+        ensures { (self.new.keys ≡ set self.old.keys self.old.count x) × (self.new.count ≡ self.old.count + 1) }
+    {
+        chain::push(
+            &mut self.keys,
+            &mut self.heads,
+            &mut self.links,
+            self.count,
+            x,
+        );
+        self.count += 1;
+    }
 }

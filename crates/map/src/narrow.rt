@@ -1,40 +1,68 @@
-// A map of narrow keys, which have 16 bits: a table of keys, of which the first `count` are in use, and chains of those that share a slot. Its heads and
-// its links are tables of their own. specs/Map.antt says what the chains hold.
+// A map of narrow keys, which have 16 bits. There are as many slots as entries.
 ghost use Rattle.std.specs.Prelude.{◌≡◌, ◌+◌, ◌<◌, set};
-ghost use Rattle.map.specs.Map.{map_size, narrow_slot_of, NarrowLinked, Latest};
+ghost use Rattle.std.proofs.lemmas.Bool.{eqb-true};
+ghost use Rattle.map.specs.Map.{map_size, narrow_slot_of, Chains, Found};
 
+use crate::chain;
+use crate::chain::Key;
 use table::table::{SIZE, Table};
 
-// The slot of a key. Of all keys 64 share one, and the first 1,024 multiples of any power of two have different ones.
-fn narrow_slot_of(x: u16) -> usize
-    ensures { (result ≡ narrow_slot_of x) × (result < map_size) }
-{
-    (x as usize + x as usize / SIZE) % SIZE
-}
+impl Key for u16 {
+    ghost slots = { map_size };
 
-// The latest entry that holds x, or `count` where there is none.
-pub fn find_narrow(keys: &Table, heads: &Table, links: &Table, count: usize, x: u16) -> usize
-    requires { NarrowLinked keys.now heads.now links.now count }
-    ensures { Latest keys.now count x result }
-{
-    let mut next = heads[narrow_slot_of(x)];
-    while 0 < next {
-        let i = next as usize - 1;
-        if keys[i] == x {
-            return i;
-        }
-        next = links[i];
+    ghost slot_of = { narrow_slot_of };
+
+    ghost unused = { 0 };
+
+    ghost same = { eqb-true };
+
+    // Of all keys 64 share a slot, and the first 1,024 multiples of any power of two have different ones.
+    fn slot(self) -> usize {
+        (self as usize + self as usize / SIZE) % SIZE
     }
-    count
 }
 
-// Puts x after the entries in use.
-pub fn push_narrow(keys: &mut Table, heads: &mut Table, links: &mut Table, count: usize, x: u16)
-    requires { (count < map_size) × NarrowLinked keys.old heads.old links.old count }
-    ensures { (keys.new ≡ set keys.old count x) × NarrowLinked keys.new heads.new links.new (count + 1) }
-{
-    let slot = narrow_slot_of(x);
-    links[count] = heads[slot];
-    heads[slot] = count as u16 + 1;
-    keys[count] = x;
+// The first `count` keys are in use.
+#[derive(Drop)]
+pub struct NarrowMap {
+    pub keys: Table,
+    pub heads: Table,
+    pub links: Table,
+    pub count: usize,
+    pub ghost linked: { Chains 0 narrow_slot_of map_size keys heads links count },
+}
+
+impl NarrowMap {
+    pub fn new() -> NarrowMap
+        ensures { result.count ≡ 0 }
+    {
+        NarrowMap {
+            keys: [0; SIZE],
+            heads: [0; SIZE],
+            links: [0; SIZE],
+            count: 0,
+        }
+    }
+
+    // The latest entry that holds x.
+    pub fn find(&self, x: u16) -> Option<usize>
+        ensures { Found 0 self.now.keys self.now.count x result }
+    {
+        chain::find(&self.keys, &self.heads, &self.links, self.count, x)
+    }
+
+    // Puts x after the entries in use.
+    pub fn push(&mut self, x: u16)
+        requires { self.old.count < map_size }
+        ensures { (self.new.keys ≡ set self.old.keys self.old.count x) × (self.new.count ≡ self.old.count + 1) }
+    {
+        chain::push(
+            &mut self.keys,
+            &mut self.heads,
+            &mut self.links,
+            self.count,
+            x,
+        );
+        self.count += 1;
+    }
 }

@@ -10,17 +10,8 @@ use Rattle.reader.specs.Log.{max_records}
 use Rattle.history.specs.History.{add, remove}
 use Rattle.history.specs.Table.{kind_at, value_at}
 use Rattle.history.proofs.Basics.{up_to}
-use Rattle.matching.specs.Matching.{AddOf, Takes, Cleared, partner_at, Adder, Remover, Matching, Partners, AddedOnce, Noted}
+use Rattle.matching.specs.Matching.{AddOf, Takes, partner_at, Adder, Remover, Matching, Partners, AddedOnce, Noted}
 use Rattle.matching.proofs.Storing.{entry_stored}
-
--- nothing is matched in a new table
-pub matching_none : (table : List ℕ) (count : ℕ) {partner : List ℕ} → Cleared max_records partner → Matching table count 0 partner
-matching_none table count cleared = record {
-  sized = cleared.sized;
-  adders = λ r l. absurd (omega arith);
-  removers = λ a l k. record { some = λ p. absurd (omega (arith, cleared.zero a)); latest = λ r m. absurd (omega arith) };
-  unmatched = λ o n m. cleared.zero o;
-}
 
 -- an operation that does not remove the value of an add leaves its remover as it is
 remover_more : {table : List ℕ} {n a x : ℕ} → Remover table n a x → (Takes table a n → ⊥) → Remover table (n + 1) a x

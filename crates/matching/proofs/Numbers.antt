@@ -1,7 +1,7 @@
 -- The smaller and the larger of two numbers, and the least of those that a function makes.
-use Prim.Native.Nat.{ℕ, ◌-◌, ◌≤◌, ◌<◌}
+use Prim.Native.Nat.{ℕ, min, max, ◌-◌, ◌≤◌, ◌<◌}
 use native.Mathlib.Omega.{arith}
-use native.Mathlib.Decide.{ℕ_discrete}
+use native.Mathlib.Decide.{ℕ_discrete, dec_lt}
 use mathlib.Core.Path.{◌≡◌, refl, sym, ◌∙◌}
 use mathlib.Core.Logic.{◌⊎◌, inl, inr}
 use Rattle.matching.specs.Answers.{LeastFrom}
@@ -13,6 +13,21 @@ Smaller a b r = (r ≤ a) × (r ≤ b) × ((r ≡ a) ⊎ (r ≡ b))
 -- r is the larger of a and b
 abbrev pub Larger : ℕ → ℕ → ℕ → Type 0
 Larger a b r = (a ≤ r) × (b ≤ r) × ((r ≡ a) ⊎ (r ≡ b))
+
+-- what the library's min and max answer
+pub smaller_is : {a b r : ℕ} → r ≡ min a b → Smaller a b r
+smaller_is {a} {b} {r} e = (omega arith, omega arith, by (dec_lt a b))
+  where
+    by : Dec (a < b) → (r ≡ a) ⊎ (r ≡ b)
+    by (yes l) = inl (omega arith)
+    by (no l) = inr (omega arith)
+
+pub larger_is : {a b r : ℕ} → r ≡ max a b → Larger a b r
+larger_is {a} {b} {r} e = (omega arith, omega arith, by (dec_lt a b))
+  where
+    by : Dec (a < b) → (r ≡ a) ⊎ (r ≡ b)
+    by (yes l) = inr (omega arith)
+    by (no l) = inl (omega arith)
 
 -- there is no number from the last on
 pub least_starts : {f : ℕ → ℕ} {none count : ℕ} → LeastFrom f none count count none

@@ -1,22 +1,35 @@
--- The table of reaches: how it is filled, and that no value reaches beyond the end.
-use Prim.Native.Nat.{ℕ, ◌+◌, ◌≤◌, ◌<◌}
+-- How far values reach, as the table has it.
+use Prim.Native.Nat.{ℕ, ◌≤◌, ◌<◌}
 use native.Mathlib.Omega.{arith}
-use mathlib.Core.Path.{◌≡◌}
+use native.Mathlib.Nat.{ℕ_set}
+use mathlib.Core.Path.{◌≡◌, refl}
+use mathlib.Core.Logic.{∥∥₁_elim}
 use mathlib.Core.List.{List}
-use lib.ListN.{set, length-set}
-use Rattle.reader.specs.Log.{max_records}
 use Rattle.history.specs.History.{History, add}
-use Rattle.violations.specs.Violations.{Is, Reaches, removed, never}
+use Rattle.violations.specs.Violations.{Is, Reaches, Removed, removed, never}
+use Rattle.violations.proofs.Operations.{removed?}
 use Rattle.matching.specs.Held.{Held}
-use Rattle.matching.specs.Reaches.{reach_by, reach_at, ReachTable, Reaching}
-use Rattle.matching.proofs.Storing.{filled_more}
+use Rattle.matching.specs.Reaches.{reach_at, Reaching}
 
--- one reach more
-pub reaches_more : {n end : ℕ} {table partner reach : List ℕ} → ReachTable n end table partner reach → {x : ℕ} → n < max_records → x ≡ reach_by table end partner n
-    → ReachTable (n + 1) end table partner (set reach n x)
-reaches_more {reach = reach} t l e = record { sized = simp length-set t.sized; reaches = filled_more reach (omega (arith, t.sized)) t.reaches e }
+-- A value keeps its table of reaches truncated, since an add may reach as far by two removes. What it says is found again: it is decided whether
+-- an add is removed, and there is one place only that its value reaches to.
+module _ {h : History} {reach : List ℕ} (kept : ∥ Reaching h reach ∥₁) where
+  only : (a far : ℕ) → Is h add a → Reaches h a far → far ≡ reach_at reach a
+  only a far is reaches = ∥∥₁_elim kept (ℕ_set _ _) (λ r. r.only a far is reaches)
 
--- no value reaches beyond the end
+  pub reaching_kept : Reaching h reach
+  reaching_kept = record {
+    sized = ∥∥₁_elim kept (ℕ_set _ _) (λ r. r.sized);
+    reaches = λ a is. by a is (removed? h a);
+    only = only;
+    idle = λ o is. ∥∥₁_elim kept (ℕ_set _ _) (λ r. r.idle o is);
+  }
+    where
+      by : (a : ℕ) → Is h add a → Dec (Removed h a) → Reaches h a (reach_at reach a)
+      by a is (yes (r, out)) = removed r out (only a (h.call r) is (removed r out refl))
+      by a is (no n) = never n (only a h.end is (never n refl))
+
+-- No value reaches beyond the end.
 pub reach_within : {h : History} {reach : List ℕ} → Held h → Reaching h reach → {a : ℕ} → Is h add a → reach_at reach a ≤ h.end
 reach_within {h} {reach} held reaching {a} is = go (reaching.reaches a is)
   where

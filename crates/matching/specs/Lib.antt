@@ -3,3 +3,4 @@ pub mod Held
 pub mod Matching
 pub mod Returns
 pub mod Reaches
+pub mod View

@@ -1,24 +1,23 @@
 -- What the code keeps of removes and the adds of their values: a table of partners. What the judge answers can be understood without this
 -- file.
-use Rattle.std.specs.Prelude.{ℕ, ◌+◌, ◌-◌, ◌≤◌, ◌<◌, ◌≡◌, List, length, get_or}
-use Rattle.map.specs.Map.{Linked}
+use Rattle.std.specs.Prelude.{ℕ, ◌+◌, ◌-◌, ◌≤◌, ◌<◌, ◌≡◌, List, length, get_or, Option, Some, None}
 use Rattle.reader.specs.Log.{max_records}
 use Rattle.history.specs.History.{add, remove}
 use Rattle.history.specs.Table.{kind_at, value_at}
+use Rattle.matching.specs.declared.values.Adds.{Adds}
 
 -- a is an add of this value
 pub record AddOf (table : List ℕ) (value a : ℕ) : Type 0 where
   pub adds : kind_at table a ≡ add
   pub values : value_at table a ≡ value
 
--- The values of the adds among the first m operations are the n entries of a map, and the adds stand in a list: the one at i has the value of
+-- The values of the adds among the first m operations are the entries of a map, and the adds stand in a list: the one at i has the value of
 -- entry i.
-pub record AddsMapped (table : List ℕ) (m n : ℕ) (values chains adds : List ℕ) : Type 0 where
-  pub linked : Linked values chains n
-  pub sized : length adds ≡ max_records
-  pub within : n ≤ m
-  pub are : (i : ℕ) → i < n → (get_or adds i 0 < m) × AddOf table (get_or values i 0) (get_or adds i 0)
-  pub all : (a : ℕ) → a < m → kind_at table a ≡ add → (i : ℕ) × (i < n) × (get_or adds i 0 ≡ a)
+pub record AddsMapped (table : List ℕ) (m : ℕ) (adds : Adds) : Type 0 where
+  pub sized : length adds.indices ≡ max_records
+  pub within : adds.values.count ≤ m
+  pub are : (i : ℕ) → i < adds.values.count → (get_or adds.indices i 0 < m) × AddOf table (get_or adds.values.keys i 0) (get_or adds.indices i 0)
+  pub all : (a : ℕ) → a < m → kind_at table a ≡ add → (i : ℕ) × (i < adds.values.count) × (get_or adds.indices i 0 ≡ a)
 
 -- r is a remove of the value of a
 pub record Takes (table : List ℕ) (a r : ℕ) : Type 0 where
@@ -33,6 +32,11 @@ pub record Cleared (size : ℕ) (numbers : List ℕ) : Type 0 where
 -- the partner of an operation: a number 1 above an operation, or 0
 abbrev pub partner_at : List ℕ → ℕ → ℕ
 partner_at partner o = get_or partner o 0
+
+-- the operation that stands in the table as the partner of operation o, if one does
+abbrev pub PartnerOf : ℕ → List ℕ → ℕ → Option ℕ → Type 0
+PartnerOf count partner o (Some p) = (p < count) × (partner_at partner o ≡ p + 1)
+PartnerOf count partner o None = partner_at partner o ≡ 0
 
 -- x is 1 above an add of the value of remove r; 0 if there is none
 pub record Adder (table : List ℕ) (count r x : ℕ) : Type 0 where

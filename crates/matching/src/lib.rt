@@ -5,3 +5,4 @@
 pub mod reaches;
 pub mod returns;
 pub mod values;
+pub mod view;

@@ -37,12 +37,6 @@ module _ {count end : ℕ} (table partner : List ℕ) {reach : List ℕ} (held :
       go (yes k) (yes e) = absurd (omega (arith, rw (eq-eqb _ _ k, eq-eqb _ _ e) at early, reach_within held right is))
       go (yes k) (no n) = record { adds = k; removed = omega arith; before = before; early = rw (eq-eqb _ _ k, ne_eqb _ _ n) at early }
 
-  -- a pending add precedes nothing
-  pub pending_blocks_none : {pattern : ℕ} → end ≤ h.ret a → Blocking table count partner reach pattern a → ⊥
-  pending_blocks_none pending blocking =
-      let (b, known, there) = blocking.some in
-      omega (arith, there.before, held.lawful.spans b known, held.lawful.ends b known)
-
   -- one that has returned blocks an add exactly if the soonest return from there on comes while its value is still there
   pub decided_blocking : {pattern x : ℕ} → pattern_by partner a ≡ pattern → Soonest h partner (h.ret a) x
       → Decides (Blocking table count partner reach pattern a) (ltb x (reach_at reach a))

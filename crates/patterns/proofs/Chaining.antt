@@ -78,8 +78,8 @@ abbrev pub CoveredEmpty : History → ℕ → Type 0
 CoveredEmpty h e = Is h empty_remove e × AllCovered h e
 
 -- nothing is listed, so e is none
-pub not_covered : {h : History} {e k : ℕ} {list : List ℕ} → Chained h e k list → k ≤ 0 → CoveredEmpty h e → ⊥
-not_covered chained none covered = chained.uncovered (omega arith) covered.1
+pub not_covered : {h : History} {e : ℕ} {list : List ℕ} → Chained h e 0 list → CoveredEmpty h e → ⊥
+not_covered chained covered = chained.uncovered refl covered.1
 
 -- e is the lowest
 pub first_chained : {h : History} {e k : ℕ} {list : List ℕ} → Unfound (CoveredEmpty h) h.count e → Is h empty_remove e → Chained h e k list → 0 < k → FirstChained h k list
@@ -91,12 +91,3 @@ first_chained {h} {e} searched is chained some =
       none = λ none. absurd (omega arith);
       found = λ some. (e, chain, lists, record { empties = is; covered = (chained_exactly h e).1 (chain, covers); chained = covers }, λ f l is covered. searched.none_lower f l (is, covered));
     }
-
--- there is none
-pub none_chained : {h : History} {e : ℕ} {list : List ℕ} → Unfound (CoveredEmpty h) h.count e → h.count ≤ e → length list ≡ max_records → FirstChained h 0 list
-none_chained searched last sized = record {
-  sized = sized;
-  within = omega arith;
-  none = λ none e is covered. searched.none_lower e (omega (arith, is.known)) (is, covered);
-  found = λ some. absurd (omega arith);
-}

@@ -1,13 +1,11 @@
 -- What the steps find is the first violation in the history in the table.
-use Prim.Native.Nat.{ℕ, zero, suc, ◌-◌, ◌≤◌, ◌<◌}
+use Prim.Native.Nat.{ℕ, ◌-◌, ◌≤◌, ◌<◌}
 use native.Mathlib.Omega.{arith}
 use mathlib.Core.Path.{◌≡◌, ◌∙◌}
 use mathlib.Core.Logic.{inl, inr}
 use mathlib.Core.List.{List, [], ◌∷◌}
 use lib.ListN.{length, take}
-use lib.Dec.{eqb}
 use lib.Seq.{sets, length-sets, sets-eq, take-append_seam}
-use Rattle.std.specs.Prelude.{if◌then◌else◌}
 use Rattle.reader.specs.Log.{max_records}
 use Rattle.reader.specs.Search.{None}
 use Rattle.history.specs.Object.{Queue}
@@ -21,8 +19,7 @@ use Rattle.matching.specs.Held.{Held}
 use Rattle.matching.specs.Answers.{First}
 use Rattle.matching.specs.Matching.{Partners, partner_at}
 use Rattle.matching.specs.Reaches.{ReachTable, Reaching}
-use Rattle.matching.proofs.Firsts.{none_found}
-use Rattle.patterns.specs.Signs.{Shows, unknown, twice, early, Again}
+use Rattle.patterns.specs.Signs.{Shows, Again}
 use Rattle.patterns.specs.Blocked.{Blocks, Blocking}
 use Rattle.patterns.specs.Chains.{FirstChained}
 use Rattle.patterns.specs.Finding.{PatternListed, Clean, Unsigned, Signed, InTurn, Paired}
@@ -62,29 +59,6 @@ module _ {count end : ℕ} {table partner : List ℕ} (held : Held (tabled count
       → Signed h table partner 3 2 (sets list 0 (r ∷ (partner_at partner r - 1) ∷ []))
   signed_early {r} known single first l = signed (r ∷ (partner_at partner r - 1) ∷ []) (omega arith) (omega arith) (early_first held partners known single first l)
 
-  pub signed_none : {r s t : ℕ} → First (Shows table partner 1) count r → count ≤ r → First (Shows table partner 2) count s → count ≤ s → First (Shows table partner 3) count t → count ≤ t
-      → Signed h table partner 0 0 list
-  signed_none u a v b w c = record {
-    sized = sized;
-    found = λ l. absurd (omega arith);
-    none = λ e. record { known = none_found u (omega (arith, u.within)); single = none_found v (omega (arith, v.within)); timely = none_found w (omega (arith, w.within)) };
-  }
-
--- a remove that shows pattern 3 has a partner
-pub early_partnered : {table partner : List ℕ} {r : ℕ} → Shows table partner 3 r → 1 ≤ partner_at partner r
-early_partnered (unknown e k z) = absurd (omega arith)
-early_partnered (twice e k s d) = absurd (omega arith)
-early_partnered (early e k s l) = s
-
--- so has an add that shows pattern 5
-pub overtaken_partnered : {table partner reach : List ℕ} {count pattern a : ℕ} → InTurn table count partner reach pattern → (pattern ≡ 4 → ⊥) → Blocking table count partner reach pattern a → 1 ≤ partner_at partner a
-overtaken_partnered (inl e) n blocking = absurd (n e)
-overtaken_partnered {partner = partner} {pattern = pattern} {a = a} (inr (e, unstuck)) n blocking = go (partner_at partner a) blocking.is
-  where
-    go : (x : ℕ) → (if eqb x 0 then 4 else 5) ≡ pattern → 1 ≤ x
-    go zero f = absurd (omega arith)
-    go (suc x) f = omega arith
-
 module _ {count end : ℕ} {table partner : List ℕ} (held : Held (tabled count end table)) (partners : Partners table count partner) (unsigned : Unsigned table count partner) where
   clean_three : Clean (tabled count end table) 4
   clean_three = three_ruled_out held partners unsigned.known unsigned.single unsigned.timely
@@ -97,9 +71,6 @@ module _ {count end : ℕ} {table partner : List ℕ} (held : Held (tabled count
     single = (tables_match right.reaches (λ n listed l. clean_three n listed (omega arith))).single
 
     -- Patterns 4 and 5.
-    pub paired_none : (list : List ℕ) → length list ≡ max_records → {pattern a : ℕ} → First (Blocking table count partner reach pattern) count a → count ≤ a → Paired (tabled count end table) table partner reach pattern 0 list
-    paired_none list sized first l = record { sized = sized; found = λ some. absurd (omega arith); none = λ e. none_found first (omega (arith, first.within)) }
-
     paired : (list : List ℕ) → length list ≡ max_records → {pattern : ℕ} (listed : List ℕ) → 0 < length listed → length listed ≤ max_records
         → FirstViolation Queue (tabled count end table) pattern listed
         → Paired (tabled count end table) table partner reach pattern (length listed) (sets list 0 listed)
@@ -125,21 +96,14 @@ module _ {count end : ℕ} {table partner : List ℕ} (held : Held (tabled count
     paired_overtaken_at list sized (inl e) n first l blocked = absurd (n e)
     paired_overtaken_at list sized (inr (e, unstuck)) n first l blocked = rw e (paired_overtaken list sized unstuck (rw e at first) l blocked)
 
-    -- an add that blocks another blocks one that is removed
-    pub blocked_known : {pattern a b : ℕ} → First (Blocking table count partner reach pattern) count a → a < count → First (Blocks table partner reach a) count b → (b < count) × (0 < partner_at partner b)
-    blocked_known {b = b} first l blocked =
-        let (o, known, there) = (first.holds l).some in
-        let not_above : count ≤ b → ⊥ = λ m. blocked.none_lower o (omega arith) there in
-        let below : b < count = omega arith in
-        (below, (blocked.holds below).removed)
-
     -- Pattern 6, where nothing else is left.
-    pub listed_last : {k : ℕ} {list : List ℕ} → None (Blocking table count partner reach 4) count → None (Blocking table count partner reach 5) count
-        → (NoViolation Queue (tabled count end table) → ⊥)
-        → FirstChained (tabled count end table) k list → PatternListed (tabled count end table) 6 k list
-    listed_last {k} stuck overtaken some first =
-        let clean = pairs_ruled_out held partners right clean_three stuck overtaken in
-        let unless : k ≡ 0 → ⊥ = λ e. some (chained_none clean first e) in
-        let listed : 0 < k = omega arith in
-        let sixth = chained_first clean first listed in
-        record { sized = first.sized; within = first.within; first = sixth }
+    module _ (stuck : None (Blocking table count partner reach 4) count) (overtaken : None (Blocking table count partner reach 5) count) {k : ℕ} {list : List ℕ}
+        (first : FirstChained (tabled count end table) k list) where
+      clean_five : Clean (tabled count end table) 6
+      clean_five = pairs_ruled_out held partners right clean_three stuck overtaken
+
+      pub none_last : k ≡ 0 → NoViolation Queue (tabled count end table)
+      none_last = chained_none clean_five first
+
+      pub listed_last : 0 < k → PatternListed (tabled count end table) 6 k list
+      listed_last some = record { sized = first.sized; within = first.within; first = chained_first clean_five first some }

@@ -1,11 +1,11 @@
+pub mod Answered
 pub mod Blocking
 pub mod Chaining
 pub mod FalseEmpties
 pub mod Finding
 pub mod Furthering
 pub mod Lower
+pub mod Numbered
 pub mod Pairs
-pub mod Ranking
-pub mod Showing
 pub mod Signing
 pub mod Soonest

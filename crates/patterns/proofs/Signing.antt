@@ -6,6 +6,8 @@ use native.Mathlib.Decide.{dec_lt}
 use mathlib.Core.Path.{◌≡◌, refl, sym, ap, ◌∙◌}
 use mathlib.Core.List.{List, [], ◌∷◌}
 use borrow.Author.Tests.{eq-eqb, ne_eqb}
+use Rattle.std.specs.Prelude.{Option}
+use Rattle.std.specs.Option.{IsSome}
 use Rattle.reader.specs.Search.{None}
 use Rattle.history.specs.Object.{Queue}
 use Rattle.history.specs.History.{History, add, remove}
@@ -18,12 +20,13 @@ use Rattle.violations.proofs.Lowest.{lower_differs}
 use Rattle.violations.proofs.Chains.{reach_of}
 use Rattle.violations.proofs.Constructing.{tables_match}
 use Rattle.matching.specs.Held.{Held}
-use Rattle.matching.specs.Answers.{First}
+use Rattle.matching.specs.Answers.{First, FirstIn}
 use Rattle.matching.specs.Matching.{partner_at, Partners}
 use Rattle.matching.specs.Reaches.{reach_at, ReachTable, Reaching}
 use Rattle.matching.proofs.Firsts.{first_not_above}
 use Rattle.matching.proofs.Partnering.{remover_latest, remover_of, remover_is, unpartnered_never, never_unpartnered, adder_of, adder_is}
 use Rattle.patterns.specs.Signs.{Shows, Again}
+use Rattle.patterns.proofs.Answered.{found_some}
 use Rattle.patterns.proofs.Lower.{not_lower}
 
 module _ {count end : ℕ} {table partner : List ℕ} (held : Held (tabled count end table)) (partners : Partners table count partner) where
@@ -78,6 +81,10 @@ module _ {count end : ℕ} {table partner : List ℕ} (held : Held (tabled count
         record { above = omega (arith, lower, other); removes = last.removes.kinds; same = adder_is held partners adds last ∙ sym (adder_is held partners adds out) },
       )
   latest_again l (Shows.early e removes some before) = absurd (omega arith)
+
+  -- so it is found
+  pub again_found : {r : ℕ} → r < count → Shows table partner 2 r → (found : Option ℕ) → FirstIn (Again table partner r) count found → IsSome found
+  again_found {r} l shows found first = let (s, known, there) = latest_again l shows in found_some (Again table partner r) found first known there
 
   -- removes with the same partner have the same value
   again_twice : {r s : ℕ} → Is h remove r → s < count → 0 < partner_at partner r → Again table partner r s → Twice h r s

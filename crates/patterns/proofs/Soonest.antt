@@ -6,10 +6,9 @@ use mathlib.Core.Path.{◌≡◌}
 use mathlib.Core.List.{List}
 use lib.ListN.{length, set, length-set}
 use Rattle.history.specs.History.{History}
-use Rattle.history.specs.Positions.{max_positions}
 use Rattle.matching.specs.Answers.{First, LeastFrom}
 use Rattle.matching.specs.Held.{Held}
-use Rattle.matching.proofs.Numbers.{Smaller, least_starts, least_back}
+use Rattle.matching.proofs.Numbers.{Smaller, least_back}
 use Rattle.matching.proofs.Storing.{filled_back}
 use Rattle.patterns.specs.Blocked.{removal_by, Soonest, SoonestTable}
 
@@ -18,14 +17,6 @@ abbrev CalledFrom : History → ℕ → ℕ → Type 0
 CalledFrom h p o = First (λ b. p ≤ h.call b) h.count o
 
 module _ {h : History} (held : Held h) where
-  -- none is called from the end on
-  called_none : CalledFrom h h.end h.count
-  called_none = record {
-    within = omega arith;
-    holds = λ l. absurd (omega arith);
-    none_lower = λ b l late. omega (arith, held.lawful.spans b l, held.lawful.ends b l);
-  }
-
   module _ {p o : ℕ} (called : CalledFrom h p o) where
     -- those after it are called from there on too
     pub called_after : {b : ℕ} → o ≤ b → b < h.count → p ≤ h.call b
@@ -64,16 +55,6 @@ pub record Filling (h : History) (partner soonest : List ℕ) (least o p : ℕ) 
   pub called : CalledFrom h p o
   pub entry : LeastFrom (removal_by h partner) h.end h.count o least
   pub filled : SoonestTable h partner p soonest
-
--- nothing is filled at the end
-pub filling_starts : {h : History} {partner soonest : List ℕ} → Held h → length soonest ≡ max_positions
-    → Filling h partner soonest h.end h.count h.end
-filling_starts held sized = record {
-  within = omega arith;
-  called = called_none held;
-  entry = least_starts;
-  filled = record { sized = sized; returns = λ p b l. absurd (omega arith) };
-}
 
 module _ {h : History} {partner soonest : List ℕ} {least o p : ℕ} (held : Held h) (so_far : Filling h partner soonest least o p) (some : 0 < p) where
   -- one entry more

@@ -1,154 +1,114 @@
 // Pairs of adds that show the patterns 4 and 5: the first precedes the second, and the second's remove returns before the first's value stops
 // covering. specs/Blocked.antt says what is found.
-ghost use Rattle.std.specs.Prelude.{◌≡◌, ◌<◌, length};
-ghost use Rattle.reader.specs.Log.{max_records};
+ghost use Rattle.std.specs.Prelude.{◌≡◌, ◌<◌};
 ghost use Rattle.history.specs.Answers.{Decides};
 ghost use Rattle.history.specs.History.{add};
-ghost use Rattle.history.specs.Positions.{max_positions};
-ghost use Rattle.history.specs.Table.{tabled};
 ghost use Rattle.violations.specs.Violations.{Is};
-ghost use Rattle.matching.specs.Answers.{First};
-ghost use Rattle.matching.specs.Held.{Held};
-ghost use Rattle.matching.specs.Matching.{Partners};
-ghost use Rattle.matching.specs.Reaches.{Reaching};
-ghost use Rattle.patterns.specs.Blocked.{pattern_by, Blocks, Blocking, removal_by, SoonestTable};
+ghost use Rattle.matching.specs.Answers.{FirstIn};
+ghost use Rattle.matching.specs.View.{history_in};
+ghost use Rattle.patterns.specs.Pattern.{number_of};
+ghost use Rattle.patterns.specs.Blocked.{pattern_by, removal_by};
+ghost use Rattle.patterns.specs.Views.{SoonestIn, BlocksIn, BlockingIn};
 
-use history::operations::{ADD, Operations, call_of, kind_of, return_of};
+use crate::pattern::Pattern;
+use history::operations::ADD;
 use matching::returns::Positions;
-use matching::values::Numbers;
-use table::number::min;
-
-// The patterns that a pair of adds shows.
-pub const STUCK: u32 = 4;
-
-pub const OVERTAKEN: u32 = 5;
+use matching::view::{Matched, Reached};
 
 // When the remove of an add's value returns; the end if there is none, or if b is no add.
-fn removal_of(table: &Operations, count: usize, end: usize, partner: &Numbers, b: usize) -> u32
-    requires { Held (tabled count end table.now) × Partners table.now count partner.now × (b < count) }
-    ensures { result ≡ removal_by (tabled count end table.now) partner.now b }
+fn removal_of(matched: &Matched, b: usize) -> u32
+    requires { b < matched.now.history.count }
+    ensures { result ≡ removal_by (history_in matched.now.history) matched.now.partner.now b }
 {
-    if kind_of(table, b) != ADD {
-        return end as u32;
+    let h = &matched.history;
+    if h.kind(b) != ADD {
+        return h.end as u32;
     }
-    let above = partner[b] as usize;
-    if above == 0 {
-        return end as u32;
+    match matched.partner_of(b) {
+        Some(r) => h.returned(r),
+        None => h.end as u32,
     }
-    return_of(table, above - 1)
 }
 
 // Fills, for each position, the soonest return of a remove whose add is called from there on, or the end if there is none. It goes from the last
 // position down; o is the first operation called from p on.
-pub(crate) fn fill_soonest(
-    table: &Operations,
-    count: usize,
-    end: usize,
-    partner: &Numbers,
-    soonest: &mut Positions,
-)
-    requires { Held (tabled count end table.now) × Partners table.now count partner.now × (length soonest.old ≡ max_positions) }
-    ensures { SoonestTable (tabled count end table.now) partner.now 0 soonest.new }
+pub(crate) fn fill_soonest(matched: &Matched, soonest: &mut Positions)
+    ensures { SoonestIn matched.now soonest.new }
 {
-    let mut least = end as u32;
-    let mut o = count;
-    let mut p = end;
-    while 0 < p {
-        p -= 1;
+    let h = &matched.history;
+    let mut least = h.end as u32;
+    let mut o = h.count;
+    for p in (0..h.end).rev() {
         if 0 < o {
-            if call_of(table, o - 1) == p as u32 {
+            if h.call(o - 1) == p as u32 {
                 o -= 1;
-                least = min(removal_of(table, count, end, partner, o), least);
+                least = removal_of(matched, o).min(least);
             }
         }
         soonest[p] = least;
     }
 }
 
-// The lowest add that add a blocks: it is called after a has returned, and removed while a's value is still there. `count` if there is none.
-pub(crate) fn blocked_by(
-    table: &Operations,
-    count: usize,
-    end: usize,
-    partner: &Numbers,
-    reach: &Numbers,
-    a: usize,
-) -> usize
-    requires { Held (tabled count end table.now)
-        × Partners table.now count partner.now
-        × Reaching (tabled count end table.now) reach.now
-        × Is (tabled count end table.now) add a }
-    ensures { First (Blocks table.now partner.now reach.now a) count result }
+// The lowest add that add a blocks, if there is one: it is called after a has returned, and removed while a's value is still there.
+pub(crate) fn blocked_by(reached: &Reached, a: usize) -> Option<usize>
+    requires { Is (history_in reached.now.matched.history) add a }
+    ensures { FirstIn (BlocksIn reached.now a) reached.now.matched.history.count result }
 {
-    let mut b = 0;
-    while b < count {
-        if return_of(table, a) < call_of(table, b) {
-            if removal_of(table, count, end, partner, b) < reach[a] {
-                return b;
+    let matched = &reached.matched;
+    let h = &matched.history;
+    for b in 0..h.count {
+        if h.returned(a) < h.call(b) {
+            if removal_of(matched, b) < reached.reach[a] {
+                return Some(b);
             }
         }
-        b += 1;
     }
-    count
+    None
 }
 
 // The pattern that an add shows if it blocks another: 4 if it is never removed, else 5.
-fn pattern_of(partner: &Numbers, a: usize) -> u32
-    requires { a < max_records }
-    ensures { result ≡ pattern_by partner.now a }
+fn pattern_of(matched: &Matched, a: usize) -> Pattern
+    requires { a < matched.now.history.count }
+    ensures { number_of result ≡ pattern_by matched.now.partner.now a }
 {
-    if partner[a] == 0 { STUCK } else { OVERTAKEN }
+    match matched.partner_of(a) {
+        None => Pattern::Stuck,
+        Some(_) => Pattern::Overtaken,
+    }
 }
 
 // Whether an operation is an add that shows a pattern. A pending add precedes nothing, so it blocks nothing.
-fn shows_blocking(
-    table: &Operations,
-    count: usize,
-    end: usize,
-    partner: &Numbers,
-    reach: &Numbers,
-    soonest: &Positions,
-    a: usize,
-    pattern: u32,
-) -> bool
-    requires { Held (tabled count end table.now)
-        × Reaching (tabled count end table.now) reach.now
-        × SoonestTable (tabled count end table.now) partner.now 0 soonest.now
-        × (a < count) }
-    ensures { Decides (Blocking table.now count partner.now reach.now pattern a) result }
+fn shows_blocking(reached: &Reached, soonest: &Positions, a: usize, pattern: Pattern) -> bool
+    requires { SoonestIn reached.now.matched soonest.now × (a < reached.now.matched.history.count) }
+    ensures { Decides (BlockingIn reached.now (number_of pattern) a) result }
 {
-    if kind_of(table, a) != ADD {
+    let h = &reached.matched.history;
+    if h.kind(a) != ADD {
         return false;
     }
-    if pattern_of(partner, a) != pattern {
+    if pattern_of(&reached.matched, a) != pattern {
         return false;
     }
-    let returned = return_of(table, a) as usize;
-    if end <= returned {
+    let returned = h.returned(a) as usize;
+    if h.end <= returned {
         return false;
     }
-    soonest[returned] < reach[a]
+    soonest[returned] < reached.reach[a]
 }
 
-// The lowest add that shows a pattern, or `count` if none does.
+// The lowest add that shows a pattern, if one does.
 pub(crate) fn first_blocking(
-    table: &Operations,
-    count: usize,
-    end: usize,
-    partner: &Numbers,
-    reach: &Numbers,
+    reached: &Reached,
     soonest: &Positions,
-    pattern: u32,
-) -> usize
-    requires { Held (tabled count end table.now) × Reaching (tabled count end table.now) reach.now × SoonestTable (tabled count end table.now) partner.now 0 soonest.now }
-    ensures { First (Blocking table.now count partner.now reach.now pattern) count result }
+    pattern: Pattern,
+) -> Option<usize>
+    requires { SoonestIn reached.now.matched soonest.now }
+    ensures { FirstIn (BlockingIn reached.now (number_of pattern)) reached.now.matched.history.count result }
 {
-    let mut a = 0;
-    while a < count {
-        if shows_blocking(table, count, end, partner, reach, soonest, a, pattern) {
-            return a;
+    for a in 0..reached.matched.history.count {
+        if shows_blocking(reached, soonest, a, pattern) {
+            return Some(a);
         }
-        a += 1;
     }
-    count
+    None
 }

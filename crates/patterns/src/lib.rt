@@ -4,4 +4,5 @@
 mod blocked;
 mod chain;
 pub mod find;
+pub mod pattern;
 mod signs;

@@ -1,74 +1,56 @@
 // What removes show of the patterns 1 to 3, by their partners. specs/Signs.antt says what is found.
-ghost use Rattle.std.specs.Prelude.{◌≡◌, ◌≤◌, ◌<◌, length};
-ghost use Rattle.reader.specs.Log.{max_records};
+ghost use Rattle.std.specs.Prelude.{◌<◌};
 ghost use Rattle.history.specs.Answers.{Decides};
-ghost use Rattle.matching.specs.Answers.{First};
-ghost use Rattle.matching.specs.Matching.{Partners};
-ghost use Rattle.patterns.specs.Signs.{Shows, Again};
+ghost use Rattle.matching.specs.Answers.{FirstIn};
+ghost use Rattle.patterns.specs.Pattern.{number_of};
+ghost use Rattle.patterns.specs.Views.{ShowsIn, AgainIn};
 
-use history::operations::{Operations, REMOVE, call_of, kind_of, return_of};
-use matching::values::Numbers;
-
-// The patterns that a remove shows.
-pub const UNKNOWN: u32 = 1;
-
-pub const TWICE: u32 = 2;
-
-pub const EARLY: u32 = 3;
+use crate::pattern::Pattern;
+use history::operations::REMOVE;
+use matching::view::Matched;
 
 // Whether a remove shows a pattern: its value is never added, is removed again by a later remove, or is added only behind its return.
-fn shows(table: &Operations, count: usize, partner: &Numbers, r: usize, pattern: u32) -> bool
-    requires { (count ≤ max_records) × (r < count) × Partners table.now count partner.now }
-    ensures { Decides (Shows table.now partner.now pattern r) result }
+fn shows(matched: &Matched, r: usize, pattern: Pattern) -> bool
+    requires { r < matched.now.history.count }
+    ensures { Decides (ShowsIn matched.now (number_of pattern) r) result }
 {
-    if kind_of(table, r) != REMOVE {
+    let h = &matched.history;
+    if h.kind(r) != REMOVE {
         return false;
     }
-    let above = partner[r] as usize;
-    if above == 0 {
-        return pattern == UNKNOWN;
-    }
-    let a = above - 1;
+    let Some(a) = matched.partner_of(r) else {
+        return pattern == Pattern::Unknown;
+    };
     match pattern {
-        TWICE => partner[a] != r as u32 + 1,
-        EARLY => return_of(table, r) < call_of(table, a),
+        Pattern::Twice => matched.partner[a] != r as u32 + 1,
+        Pattern::Early => h.returned(r) < h.call(a),
         _ => false,
     }
 }
 
-// The lowest remove that shows a pattern, or `count` if none does.
-pub(crate) fn first_showing(
-    table: &Operations,
-    count: usize,
-    partner: &Numbers,
-    pattern: u32,
-) -> usize
-    requires { (count ≤ max_records) × Partners table.now count partner.now }
-    ensures { First (Shows table.now partner.now pattern) count result }
+// The lowest remove that shows a pattern, if one does.
+pub(crate) fn first_showing(matched: &Matched, pattern: Pattern) -> Option<usize>
+    ensures { FirstIn (ShowsIn matched.now (number_of pattern)) matched.now.history.count result }
 {
-    let mut r = 0;
-    while r < count {
-        if shows(table, count, partner, r, pattern) {
-            return r;
+    for r in 0..matched.history.count {
+        if shows(matched, r, pattern) {
+            return Some(r);
         }
-        r += 1;
     }
-    count
+    None
 }
 
-// The lowest remove above r with the same partner, or `count` if there is none.
-pub(crate) fn removed_again(table: &Operations, count: usize, partner: &Numbers, r: usize) -> usize
-    requires { (count ≤ max_records) × (r < count) × (length partner.now ≡ max_records) }
-    ensures { First (Again table.now partner.now r) count result }
+// The lowest remove above r with the same partner, if there is one.
+pub(crate) fn removed_again(matched: &Matched, r: usize) -> Option<usize>
+    requires { r < matched.now.history.count }
+    ensures { FirstIn (AgainIn matched.now r) matched.now.history.count result }
 {
-    let mut s = r + 1;
-    while s < count {
-        if kind_of(table, s) == REMOVE {
-            if partner[s] == partner[r] {
-                return s;
+    for s in r + 1..matched.history.count {
+        if matched.history.kind(s) == REMOVE {
+            if matched.partner[s] == matched.partner[r] {
+                return Some(s);
             }
         }
-        s += 1;
     }
-    count
+    None
 }

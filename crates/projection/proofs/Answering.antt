@@ -1,15 +1,14 @@
 -- From what a check, the kept operations and the writing find out to the answer of an entry.
 use Prim.Native.Nat.{ℕ, ◌≤◌, ◌<◌}
 use native.Mathlib.Omega.{arith}
-use mathlib.Core.Path.{◌≡◌, refl, sym, ◌∙◌}
+use mathlib.Core.Path.{◌≡◌, refl, ◌∙◌}
+use mathlib.Core.Bool.{Bool}
 use mathlib.Core.List.{List, []}
 use lib.ListN.{length}
-use Rattle.buffer.specs.declared.output.Output.{Output}
-use Rattle.buffer.specs.declared.output.Output.TheVariants.{Refused}
-use Rattle.reader.specs.Log.{max_records, refused, read_log, checked}
-use Rattle.reader.specs.declared.log.Checked.{Checked}
-use Rattle.reader.specs.declared.log.Checked.TheVariants as check
-use Rattle.reader.proofs.Laws.{checked_refused, few_operations}
+use Rattle.std.specs.Prelude.{Result}
+use Rattle.record.specs.declared.refusal.Refused.{Refused}
+use Rattle.reader.specs.Log.{max_records, read_log}
+use Rattle.reader.proofs.Laws.{few_operations}
 use Rattle.history.specs.Operations.{history_of, operation_at}
 use Rattle.history.specs.Table.{TableOf}
 use Rattle.history.proofs.Along.{whole_readable, whole_one}
@@ -21,11 +20,6 @@ use Rattle.projection.specs.Copies.{kept_records, Writes}
 use Rattle.projection.proofs.Selecting.{keep_same}
 use Rattle.projection.proofs.Projecting.{writes_same}
 
--- a log that is refused
-pub narrow_refused : (log values out : List ℕ) {answer : Checked} {number index : ℕ} → answer ≡ checked (read_log log) → answer ≡ check.Refused number index
-    → (Refused number index ≡ narrow_answer (read_log log) values out) × (out ≡ narrow_leaves (read_log log) values out)
-narrow_refused log values out {number = number} {index = index} e f = let reads : read_log log ≡ refused number index = checked_refused (read_log log) (sym e ∙ f) in rw reads (refl, refl)
-
 module _ {log : List ℕ} {n m : ℕ} {table : List ℕ} (of : TableOf log n m table) where
   pub count_small : m ≤ max_records
   count_small = omega (arith, of.counted, few_operations of.whole.records, (whole_readable of.whole).partial.regular.few)
@@ -35,8 +29,8 @@ module _ {log : List ℕ} {n m : ℕ} {table : List ℕ} (of : TableOf log n m t
   keeps_agree empties values o l = rw (of.agree.kind o l, of.agree.value o l) refl
 
   -- so the records of the marked operations are the projection
-  pub writes_projection : {empties values kept : List ℕ} → KeptAre table m empties values kept
-      → {out out' : List ℕ} {r : Output} → Writes log (kept_records kept) out r out' → Writes log (λ records. projection records empties values) out r out'
+  pub writes_projection : {empties values : List ℕ} {kept : List Bool} → KeptAre table m empties values kept
+      → {out out' : List ℕ} {r : Result ℕ Refused} → Writes log (kept_records kept) out r out' → Writes log (λ records. projection records empties values) out r out'
   writes_projection {empties} {values} {kept} kept-are writes = writes_same writes (λ records reads. rw (← whole_one of.whole records reads) all)
     where
       all : kept_records kept of.whole.records ≡ projection of.whole.records empties values
@@ -47,6 +41,6 @@ module _ {log : List ℕ} {n m : ℕ} {table : List ℕ} (of : TableOf log n m t
               let known : operation_at of.whole.records i < m = omega (arith, of.counted, operation_known (whole_readable of.whole).partial.regular i l) in
               kept-are.marked (operation_at of.whole.records i) known ∙ keeps_agree empties values (operation_at of.whole.records i) known
 
-  pub narrow_readable : (values : List ℕ) {out out' : List ℕ} {r : Output} → Writes log (λ records. projection records [] values) out r out'
+  pub narrow_readable : (values : List ℕ) {out out' : List ℕ} {r : Result ℕ Refused} → Writes log (λ records. projection records [] values) out r out'
       → (r ≡ narrow_answer (read_log log) values out) × (out' ≡ narrow_leaves (read_log log) values out)
   narrow_readable values writes = rw of.whole.reads (writes.answers of.whole.records of.whole.reads, writes.leaves of.whole.records of.whole.reads)

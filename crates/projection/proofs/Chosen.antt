@@ -17,7 +17,7 @@ use Rattle.projection.proofs.Sizes.{sizes_append, encode_append}
 
 -- one record more
 module _ (choose : ℕ → Bool) (records : List Record) (n : ℕ) where
-  chosen_more : chosen choose records (n + 1) ≡ chosen choose records n ++ (if choose n then record_of records n ∷ [] else [])
+  pub chosen_more : chosen choose records (n + 1) ≡ chosen choose records n ++ (if choose n then record_of records n ∷ [] else [])
   unfolding chosen
   chosen_more = rw add-one refl
 

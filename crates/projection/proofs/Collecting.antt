@@ -2,13 +2,13 @@
 use Prim.Native.Nat.{ℕ, ◌+◌, ◌≤◌, ◌<◌}
 use native.Mathlib.Omega.{arith}
 use native.Mathlib.Numerals.{add-one}
-use mathlib.Core.Path.{◌≡◌, refl, sym, ap, ◌∙◌}
+use mathlib.Core.Path.{◌≡◌, refl, sym, ap}
 use mathlib.Core.Bool.{Bool, true, false}
 use mathlib.Core.Logic.{◌⊎◌, inl, inr}
 use mathlib.Core.List.{List, [], ◌∷◌, ◌++◌, append-nil}
 use lib.ListN.{length, get_or, take}
 use lib.Dec.{eqb}
-use lib.Seq.{take-suc, take_all, length-take-le}
+use lib.Seq.{take-suc}
 use borrow.Author.Tests.{ne_eqb}
 use Rattle.std.specs.Prelude.{if◌then◌else◌}
 use Rattle.reader.specs.Log.{max_records}
@@ -17,7 +17,7 @@ use Rattle.history.specs.History.{History, empty_remove, no_kind}
 use Rattle.history.specs.Table.{kind_at, value_at}
 use Rattle.projection.specs.Projection.{values_of}
 use Rattle.projection.specs.Marks.{entries_of}
-use Rattle.projection.specs.Listed.{Listable, ValueAdded, ValuesAre}
+use Rattle.projection.specs.Listed.{ValueAdded}
 
 -- The loop of `collect` has come to the listed operation at index i.
 pub record Collecting (table listed values : List ℕ) (count i : ℕ) : Type 0 where
@@ -69,14 +69,3 @@ module _ {table listed values : List ℕ} {count i : ℕ} (collecting : Collecti
     sized = added.sized;
     holds = rw (add-one, take-suc listed i 0 l, values_append (entries_of table) (take i listed) (get_or listed i 0 ∷ []), ← collecting.holds) added.holds;
   }
-
-  pub collecting_ends : length listed ≤ i → ValuesAre table listed count values
-  collecting_ends l = record {
-    few = omega (arith, collecting.few, collecting.within);
-    sized = collecting.sized;
-    holds = collecting.holds ∙ ap (values_of (entries_of table)) (take_all i listed l);
-  }
-
--- the collected values as a list
-pub values_length : {table listed values : List ℕ} {count : ℕ} → Listable listed → ValuesAre table listed count values → count ≡ length (take count values)
-values_length {values = values} {count = count} listable are = sym (length-take-le count values (omega (arith, listable.few, are.few, are.sized)))

@@ -7,14 +7,14 @@ use mathlib.Core.Logic.{◌⊎◌, inl, inr}
 use mathlib.Core.List.{List, [], ◌∷◌}
 use lib.ListN.{length, get_or, take}
 use lib.Seq.{length-take-le}
+use Rattle.std.specs.Prelude.{Result, Option, Some, None}
+use Rattle.std.specs.Option.{is_some}
 use Rattle.buffer.specs.Buffer.{written}
 use Rattle.buffer.specs.Output.{writing}
-use Rattle.buffer.specs.declared.output.Output.{Output}
-use Rattle.buffer.specs.declared.output.Output.TheVariants.{Refused}
-use Rattle.reader.specs.Log.{max_records, refused, read_log, checked, encode_log, has_pending_remove}
-use Rattle.reader.specs.declared.log.Checked.{Checked}
-use Rattle.reader.specs.declared.log.Checked.TheVariants as check
-use Rattle.reader.proofs.Laws.{checked_refused}
+use Rattle.record.specs.Refusal.{refusing}
+use Rattle.record.specs.declared.refusal.Refusal.TheVariants.{NoPattern, RemoveUnreturned}
+use Rattle.record.specs.declared.refusal.Refused.{Refused}
+use Rattle.reader.specs.Log.{max_records, read_log, encode_log, has_pending_remove}
 use Rattle.history.specs.Object.{Queue}
 use Rattle.history.specs.Each.{Each}
 use Rattle.history.specs.History.{History, no_kind, RemovesReturned, Lawful}
@@ -26,22 +26,17 @@ use Rattle.history.proofs.Laws.{history_lawful, history_returned, history_none_p
 use Rattle.violations.specs.Violations.{NoViolation}
 use Rattle.violations.specs.Verdict.{FirstViolation, SomeViolation, CompleteVerdict}
 use Rattle.violations.proofs.Laws.{first_violation, first_violation_one, occurs_known, excluded, judged_complete, complete_zero, complete_pattern, agree_complete_verdict}
-use Rattle.matching.specs.Answers.{First}
+use Rattle.matching.specs.Answers.{First, FirstIn}
 use Rattle.matching.specs.Held.{Held}
 use Rattle.matching.proofs.Firsts.{none_found}
 use Rattle.matching.proofs.Holding.{agree_held}
 use Rattle.judge.specs.Decision.{CompleteDecided}
 use Rattle.projection.specs.Projection.{values_of, projection, excerpted}
-use Rattle.projection.specs.Outcome.{remove_unreturned, no_pattern, excerpt_answer_of, excerpt_leaves_of, excerpt_answer, excerpt_leaves}
+use Rattle.projection.specs.Outcome.{excerpt_answer_of, excerpt_leaves_of, excerpt_answer, excerpt_leaves}
 use Rattle.projection.specs.Marks.{entries_of}
 use Rattle.projection.specs.Listed.{Listable}
 use Rattle.projection.specs.Copies.{Writes}
 use Rattle.projection.proofs.Answering.{count_small}
-
--- a log that is refused
-pub excerpt_refused : (log out : List ℕ) {answer : Checked} {number index : ℕ} → answer ≡ checked (read_log log) → answer ≡ check.Refused number index
-    → (Refused number index ≡ excerpt_answer (read_log log) out) × (out ≡ excerpt_leaves (read_log log) out)
-excerpt_refused log out {number = number} {index = index} e f = let reads : read_log log ≡ refused number index = checked_refused (read_log log) (sym e ∙ f) in rw reads (refl, refl)
 
 -- listed operations have the values of their entries
 values_agree : (count end : ℕ) (table : List ℕ) (h : History) → Agree (tabled count end table) h → (listed : List ℕ) → Each (λ o. o < count) listed → values_of (entries_of table) listed ≡ values_of h listed
@@ -77,8 +72,9 @@ module _ {log : List ℕ} {n m : ℕ} {table : List ℕ} (of : TableOf log n m t
           let kinded = history_returned (whole_readable of.whole) e o (omega (arith, of.agree.count)) in
           absurd (omega (arith, kinded, of.agree.kind o l, first.holds l))
 
-  pub none_pending : {o : ℕ} → First (λ p. kind_at table p ≡ no_kind) m o → m ≤ o → RemovesReturned (tabled m (n + 1) table)
-  none_pending first l p known = let unkinded : kind_at table p ≡ no_kind → ⊥ = none_found first (omega (arith, first.within)) p known in omega arith
+  pub none_pending : (found : Option ℕ) → FirstIn (λ p. kind_at table p ≡ no_kind) m found → is_some found ≡ false → RemovesReturned (tabled m (n + 1) table)
+  none_pending (Some o) first e = let z : ◌≡◌ {A = ℕ} 0 1 = cc in absurd (omega arith)
+  none_pending None first e = λ p known. let unkinded : kind_at table p ≡ no_kind → ⊥ = none_found first refl p known in omega arith
 
   all_returned : RemovesReturned (tabled m (n + 1) table) → has_pending_remove of.whole.records ≡ false
   all_returned returned =
@@ -86,9 +82,10 @@ module _ {log : List ℕ} {n m : ℕ} {table : List ℕ} (of : TableOf log n m t
       (λ o l. let known : o < m = omega (arith, of.agree.count) in omega (arith, returned o known, of.agree.kind o known))
 
   -- there is one
-  pub pending_found : {o : ℕ} → First (λ p. kind_at table p ≡ no_kind) m o → o < m → (out : List ℕ)
-      → (Refused remove_unreturned 0 ≡ excerpt_answer (read_log log) out) × (out ≡ excerpt_leaves (read_log log) out)
-  pending_found first l out = rw (of.whole.reads, found_pending first l) (refl, refl)
+  pub pending_found : (found : Option ℕ) → FirstIn (λ p. kind_at table p ≡ no_kind) m found → is_some found ≡ true → (out : List ℕ)
+      → (refusing RemoveUnreturned 0 ≡ excerpt_answer (read_log log) out) × (out ≡ excerpt_leaves (read_log log) out)
+  pending_found (Some o) (l, first) e out = rw (of.whole.reads, found_pending first l) (refl, refl)
+  pending_found None first e out = cc
 
   module _ (returned : RemovesReturned (tabled m (n + 1) table)) {verdict k : ℕ} {list : List ℕ} (decided : CompleteDecided (tabled m (n + 1) table) verdict k list) where
     -- the operations that it lists
@@ -100,11 +97,11 @@ module _ {log : List ℕ} {n m : ℕ} {table : List ℕ} (of : TableOf log n m t
     judged = agree_complete_verdict Queue of.agree decided.verdict
 
     -- the verdict is an order
-    pub order_found : verdict ≡ order_verdict → (out : List ℕ) → (Refused no_pattern 0 ≡ excerpt_answer (read_log log) out) × (out ≡ excerpt_leaves (read_log log) out)
+    pub order_found : verdict ≡ order_verdict → (out : List ℕ) → (refusing NoPattern 0 ≡ excerpt_answer (read_log log) out) × (out ≡ excerpt_leaves (read_log log) out)
     order_found e out = rw (of.whole.reads, all_returned returned) (go (first_violation Queue own))
       where
         go : (found : SomeViolation Queue own ⊎ NoViolation Queue own)
-            → (Refused no_pattern 0 ≡ excerpt_answer_of of.whole.records found out) × (out ≡ excerpt_leaves_of of.whole.records found out)
+            → (refusing NoPattern 0 ≡ excerpt_answer_of of.whole.records found out) × (out ≡ excerpt_leaves_of of.whole.records found out)
         go (inl (number, listed, first)) = absurd (excluded lawful (judged_complete (complete_zero judged e)) first.occurs)
         go (inr clean) = (refl, refl)
 
@@ -121,7 +118,7 @@ module _ {log : List ℕ} {n m : ℕ} {table : List ℕ} (of : TableOf log n m t
       listed_listable = record { few = omega (arith, listed_length, decided.within); small = known_small (count_small of) (take k list) listed_known }
 
       -- and the excerpt is made from them
-      pub pattern_found : {out out' : List ℕ} {r : Output} → Writes log (λ records. projection records (take k list) (values_of (entries_of table) (take k list))) out r out'
+      pub pattern_found : {out out' : List ℕ} {r : Result ℕ Refused} → Writes log (λ records. projection records (take k list) (values_of (entries_of table) (take k list))) out r out'
           → (r ≡ excerpt_answer (read_log log) out) × (out' ≡ excerpt_leaves (read_log log) out)
       pattern_found {out} {out'} {r} writes = rw (of.whole.reads, all_returned returned) (go (first_violation Queue own))
         where

@@ -9,13 +9,14 @@ use mathlib.Core.Logic.{◌⊎◌, inl, inr}
 use mathlib.Core.List.{List, [], ◌∷◌, ◌++◌}
 use lib.ListN.{length, length-append}
 use borrow.Author.Tests.{ne_eqb}
-use Rattle.std.specs.Prelude.{if◌then◌else◌}
+use Rattle.std.specs.Prelude.{Ok, if◌then◌else◌}
 use Rattle.record.specs.Number.{bytes_of, Bytes}
 use Rattle.record.specs.Record.{encode}
 use Rattle.record.specs.declared.record.Record.{Record}
 use Rattle.buffer.specs.Buffer.{written}
 use Rattle.buffer.specs.Output.{writing}
-use Rattle.buffer.specs.declared.output.Output.TheVariants.{Written, Refused}
+use Rattle.record.specs.Refusal.{refusing}
+use Rattle.record.specs.declared.refusal.Refusal.TheVariants.{NoPattern, RemoveUnreturned}
 use Rattle.reader.specs.Log.{max_length, encode_all, readable, read_log, encode_log, operations, has_pending_remove}
 use Rattle.table.specs.Table.{is_in}
 use Rattle.reader.specs.Readable.{ReadableLog, Orderly}
@@ -33,7 +34,7 @@ use Rattle.violations.specs.Verdict.{FirstViolation, SomeViolation, Verdict}
 use Rattle.violations.specs.Parts.{HasValue, Part, Kept}
 use Rattle.violations.proofs.Laws.{first_violation, first_violation_one, occurs_kinded, excluded, part_verdict}
 use Rattle.projection.specs.Projection.{keep_records, values_of, keeps, projection, narrowed, excerpted}
-use Rattle.projection.specs.Outcome.{remove_unreturned, no_pattern, excerpt_answer_of, excerpt_leaves_of, excerpt_answer, excerpt_leaves}
+use Rattle.projection.specs.Outcome.{excerpt_answer_of, excerpt_leaves_of, excerpt_answer, excerpt_leaves}
 use Rattle.projection.proofs.Sizes.{log_length}
 use Rattle.projection.proofs.Selecting.{keep_picks, kept_together, keep_same}
 use Rattle.projection.proofs.Picking.{Picked}
@@ -161,29 +162,27 @@ narrowed_alike log records reads values others same =
 
 -- 32: "It refuses with 32 an excerpt of a log with an open remove, before 23", whatever the verdict: so it is answered, and nothing is written.
 pub excerpt_pending : (log : List ℕ) (records : List Record) → read_log log ≡ readable records → has_pending_remove records ≡ true → (out : List ℕ)
-    → (excerpt_answer (read_log log) out ≡ Refused remove_unreturned 0) × (excerpt_leaves (read_log log) out ≡ out)
+    → (excerpt_answer (read_log log) out ≡ refusing RemoveUnreturned 0) × (excerpt_leaves (read_log log) out ≡ out)
 excerpt_pending log records reads pending out = rw (reads, pending) (refl, refl)
 
 -- So an excerpt is written of no log with an open remove.
 pub excerpt_written : (log : List ℕ) (records : List Record) → read_log log ≡ readable records → (out : List ℕ) {n : ℕ}
-    → excerpt_answer (read_log log) out ≡ Written n → has_pending_remove records ≡ false
+    → excerpt_answer (read_log log) out ≡ Ok n → has_pending_remove records ≡ false
 excerpt_written log records reads out {n} e = by (has_pending_remove records) refl
   where
     by : (b : Bool) → has_pending_remove records ≡ b → b ≡ false
     by false returned = refl
     by true pending =
-        let z : Refused remove_unreturned 0 ≡ Written n = sym (excerpt_pending log records reads pending out).0 ∙ e in
-        let y : ◌≡◌ {A = ℕ} 0 1 = cc in
-        absurd (omega arith)
+        let z : refusing RemoveUnreturned 0 ≡ Ok n = sym (excerpt_pending log records reads pending out).0 ∙ e in cc
 
 -- 23: "excerpt where the verdict is an order": so it is answered, and nothing is written.
 pub excerpt_of_order : (log : List ℕ) (records : List Record) → read_log log ≡ readable records → has_pending_remove records ≡ false → (order : List ℕ)
     → Linearization Queue (history_of records) order → (out : List ℕ)
-    → (excerpt_answer (read_log log) out ≡ Refused no_pattern 0) × (excerpt_leaves (read_log log) out ≡ out)
+    → (excerpt_answer (read_log log) out ≡ refusing NoPattern 0) × (excerpt_leaves (read_log log) out ≡ out)
 excerpt_of_order log records reads returned order legal out = rw (reads, returned) (go (first_violation Queue (history_of records)))
   where
     go : (found : SomeViolation Queue (history_of records) ⊎ NoViolation Queue (history_of records))
-        → (excerpt_answer_of records found out ≡ Refused no_pattern 0) × (excerpt_leaves_of records found out ≡ out)
+        → (excerpt_answer_of records found out ≡ refusing NoPattern 0) × (excerpt_leaves_of records found out ≡ out)
     go (inl (n, listed, first)) =
         let read = readable_log log records reads in
         absurd (excluded (history_lawful read) (returned_complete (history_returned read returned) legal) first.occurs)

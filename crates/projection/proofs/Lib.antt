@@ -7,7 +7,6 @@ pub mod Framing
 pub mod Laws
 pub mod Marking
 pub mod Measuring
-pub mod Noting
 pub mod Originals
 pub mod Parts
 pub mod Picking

@@ -1,52 +1,42 @@
 -- The loop that marks the records of kept operations.
-use Prim.Native.Nat.{ℕ, ◌+◌, ◌≤◌, ◌<◌}
+use Prim.Native.Nat.{ℕ, ◌≤◌, ◌<◌}
 use native.Mathlib.Omega.{arith}
 use mathlib.Core.Path.{◌≡◌, ap, ◌∙◌}
+use mathlib.Core.Bool.{Bool, false}
 use mathlib.Core.List.{List}
-use lib.ListN.{length, get_or, set, length-set}
+use lib.ListN.{length, set, length-set}
 use lib.Seq.{get_or-set_same, get_or-set_other}
-use Rattle.record.specs.Record.{decode_at}
 use Rattle.record.specs.declared.record.Record.{Record}
-use Rattle.record.specs.declared.record.Decoded.{Decoded}
-use Rattle.record.specs.declared.record.Decoded.TheVariants.{Found}
-use Rattle.map.proofs.Laws.{new_keys, new_chains}
-use Rattle.reader.specs.Log.{header_length, max_records}
+use Rattle.reader.specs.Log.{max_records}
 use Rattle.history.specs.Operations.{operation_at}
-use Rattle.history.specs.Owners.{Owned}
-use Rattle.history.specs.Table.{Whole}
-use Rattle.history.specs.declared.owners.Owner.{Owner}
-use Rattle.history.proofs.Along.{whole_one}
+use Rattle.history.specs.Walks.{Stepped}
+use Rattle.history.specs.declared.walk.Step.{Step}
+use Rattle.history.specs.declared.walk.Walk.{Walk}
 use Rattle.history.proofs.Basics.{up_to}
-use Rattle.history.proofs.Walking.{Walking, walking_starts, walking_small, walking_owner, walking_next}
-use Rattle.projection.specs.Marks.{MarksAre}
+use Rattle.history.proofs.Walking.{Keeping, keeping_whole, keeping_ends, keeping_next}
+use Rattle.projection.specs.Marks.{is_set, MarksAre}
 
--- The loop of `mark` has come to record i.
-pub record Marking (log : List ℕ) (end : ℕ) (kept callers chains marks : List ℕ) (at count i : ℕ) : Type 0 where
-  pub walking : Walking log end callers chains at count i
-  -- the records before it are marked
+-- What the loop of `mark` keeps: the first n records are marked.
+pub record Marking (kept marks : List Bool) (records : List Record) (n : ℕ) : Type 0 where
   pub sized : length marks ≡ max_records
-  pub marked : (j : ℕ) → j < i → get_or marks j 0 ≡ get_or kept (operation_at walking.whole.records j) 0
+  pub marked : (j : ℕ) → j < n → is_set marks j ≡ is_set kept (operation_at records j)
 
-pub marking_starts : {log kept marks : List ℕ} {end : ℕ} → Whole log end → length marks ≡ max_records
-    → Marking log end kept new_keys new_chains marks header_length 0 0
-marking_starts whole sized = record { walking = walking_starts whole; sized = sized; marked = λ j l. absurd (omega arith) }
+pub marking_starts : {kept marks : List Bool} → length marks ≡ max_records → (records : List Record) → Marking kept marks records 0
+marking_starts sized records = record { sized = sized; marked = λ j l. absurd (omega arith) }
 
-module _ {log kept callers chains marks : List ℕ} {end at count i : ℕ} (marking : Marking log end kept callers chains marks at count i) where
-  pub marking_ends : end ≤ i → MarksAre log kept marks
-  marking_ends l = record {
-    sized = marking.sized;
-    marked = λ records reads j h.
-        let same = whole_one marking.walking.whole records reads in
-        rw same at (marking.marked j (omega (arith, marking.walking.whole.counted, ap length same)));
-  }
+module _ {log : List ℕ} {size : ℕ} {kept marks : List Bool} {walk : Walk} (marking : Keeping log size (Marking kept marks) walk) where
+  pub marking_ends : walk.records ≤ walk.index → MarksAre log kept marks
+  marking_ends l =
+      let whole = keeping_whole marking in
+      record {
+        sized = (keeping_ends marking l whole.records whole.reads).sized;
+        marked = λ records reads. (keeping_ends marking l records reads).marked;
+      }
 
-  pub marking_next : i < end → {r : Record} {next : ℕ} {d : Decoded} → d ≡ decode_at log at → d ≡ Found r next
-      → {owner : Owner} {callers' chains' : List ℕ} → Owned r count callers chains owner callers' chains'
-      → Marking log end kept callers' chains' (set marks i (get_or kept owner.operation 0)) next owner.count (i + 1)
-  marking_next l e f owned = record {
-    walking = walking_next marking.walking l e f owned;
-    sized = length-set marks i _ ∙ marking.sized;
+  pub marking_next : {step : Step} {walk' : Walk} → Stepped walk step walk' → Keeping log size (Marking kept (set marks step.index (is_set kept step.operation))) walk'
+  marking_next {step} stepped = keeping_next marking stepped (λ records reads regular counted told before. record {
+    sized = length-set marks step.index _ ∙ before.sized;
     marked = up_to
-        (λ j m. get_or-set_other marks i j _ 0 (λ z. omega arith) ∙ marking.marked j m)
-        (get_or-set_same marks i _ 0 (omega (arith, marking.sized, walking_small marking.walking l)) ∙ ap (λ o. get_or kept o 0) (walking_owner marking.walking l e f owned));
-  }
+        (λ j m. get_or-set_other marks step.index j _ false (λ z. omega arith) ∙ before.marked j m)
+        (get_or-set_same marks step.index _ false (omega (arith, before.sized, told.there, regular.few)) ∙ ap (is_set kept) told.owner);
+  })

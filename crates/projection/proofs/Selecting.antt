@@ -1,19 +1,21 @@
 -- The records of kept operations are those that are chosen, or picked, by their operations. A call and its return are so together.
-use Prim.Native.Nat.{ℕ, zero, suc, ◌<◌}
+use Prim.Native.Nat.{ℕ, zero, suc, ◌≤◌, ◌<◌}
 use native.Mathlib.Omega.{arith}
 use mathlib.Core.Path.{◌≡◌, refl, sym, ap, ◌∙◌}
 use mathlib.Core.Bool.{Bool, true, false}
 use mathlib.Core.List.{List, [], ◌∷◌, ◌++◌, append_assoc, append-nil}
-use lib.ListN.{length}
-use lib.Dec.{eqb}
+use lib.ListN.{length, take}
+use Rattle.std.proofs.lemmas.List.{get_or-take}
 use Rattle.std.specs.Prelude.{if◌then◌else◌}
 use Rattle.record.specs.declared.record.Record.{Record}
 use Rattle.reader.specs.Log.{readable, read_log}
 use Rattle.reader.specs.Readable.{Orderly}
 use Rattle.history.specs.Operations.{operation_of, operation_from, operation_at}
+use Rattle.history.specs.Table.{Whole}
+use Rattle.history.proofs.Along.{whole_readable, whole_one}
 use Rattle.history.proofs.Owning.{operation_called, operation_answered}
 use Rattle.projection.specs.Projection.{keep_records}
-use Rattle.projection.specs.Marks.{kept_mark, is_set, MarksAre}
+use Rattle.projection.specs.Marks.{is_set, MarksAre}
 use Rattle.projection.specs.Copies.{chosen, marked}
 use Rattle.projection.proofs.Picking.{Picked, picked_none, picked_first, picked_others}
 use Rattle.projection.proofs.Turns.{Together}
@@ -62,7 +64,14 @@ pub keep_same : (keep other : ℕ → Bool) (records : List Record) → ((i : �
     → keep_records keep [] records ≡ keep_records other [] records
 keep_same keep other records same = keep_chosen keep [] records ∙ chosen_same _ _ records (length records) same ∙ sym (keep_chosen other [] records)
 
--- they are the marked records
-pub keep_marked : {log kept marks : List ℕ} → MarksAre log kept marks → (records : List Record) → read_log log ≡ readable records → keep_records (is_set kept) [] records ≡ marked marks records
-keep_marked {kept = kept} marks records reads =
-    keep_chosen (is_set kept) [] records ∙ chosen_same _ _ records (length records) (λ i l. ap (λ x. eqb x kept_mark) (sym (marks.marked records reads i l)))
+-- there are marks for all records
+pub marks_enough : {log : List ℕ} {end : ℕ} {kept marks : List Bool} → Whole log end → MarksAre log kept marks → end ≤ length marks
+marks_enough whole are = omega (arith, whole.counted, (whole_readable whole).partial.regular.few, are.sized)
+
+-- they are the marked records, by as many marks as there are records
+pub keep_marked : {log : List ℕ} {end : ℕ} {kept marks : List Bool} → Whole log end → MarksAre log kept marks → (records : List Record) → read_log log ≡ readable records
+    → keep_records (is_set kept) [] records ≡ marked (take end marks) records
+keep_marked {end = end} {kept} {marks} whole are records reads =
+    keep_chosen (is_set kept) [] records
+    ∙ chosen_same _ _ records (length records)
+    (λ i l. sym (get_or-take end marks i false (omega (arith, whole.counted, ap length (whole_one whole records reads))) ∙ are.marked records reads i l))

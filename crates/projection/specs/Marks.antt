@@ -1,6 +1,6 @@
 -- What the code keeps while it writes a log out of a log: which operations are kept, and which records are theirs. What is written can be
 -- understood without this file.
-use Rattle.std.specs.Prelude.{ℕ, ◌<◌, ◌≡◌, Bool, List, length, get_or, eqb}
+use Rattle.std.specs.Prelude.{ℕ, ◌<◌, ◌≡◌, Bool, false, List, length, get_or}
 use Rattle.record.specs.declared.record.Record.{Record}
 use Rattle.reader.specs.Log.{max_records, readable, read_log}
 use Rattle.history.specs.History.{History}
@@ -8,13 +8,9 @@ use Rattle.history.specs.Operations.{operation_at}
 use Rattle.history.specs.Table.{tabled}
 use Rattle.projection.specs.Projection.{keeps}
 
--- the mark of what is kept
-abbrev pub kept_mark : ℕ
-kept_mark = 1
-
 -- whether a mark is set
-abbrev pub is_set : List ℕ → ℕ → Bool
-is_set marks i = eqb (get_or marks i 0) kept_mark
+abbrev pub is_set : List Bool → ℕ → Bool
+is_set marks i = get_or marks i false
 
 -- the entries of a table as operations, where it does not matter how many it holds and where they end
 abbrev pub entries_of : List ℕ → History
@@ -25,12 +21,12 @@ abbrev pub keeps_in : List ℕ → List ℕ → List ℕ → ℕ → Bool
 keeps_in table empties values o = keeps (entries_of table) empties values o
 
 -- Of the first `count` operations of a table just those are marked that are kept.
-pub record KeptAre (table : List ℕ) (count : ℕ) (empties values kept : List ℕ) : Type 0 where
+pub record KeptAre (table : List ℕ) (count : ℕ) (empties values : List ℕ) (kept : List Bool) : Type 0 where
   pub sized : length kept ≡ max_records
   pub marked : (o : ℕ) → o < count → is_set kept o ≡ keeps_in table empties values o
 
 -- The records of a readable log are marked as their operations are.
-pub record MarksAre (log kept marks : List ℕ) : Type 0 where
+pub record MarksAre (log : List ℕ) (kept marks : List Bool) : Type 0 where
   pub sized : length marks ≡ max_records
   pub marked : (records : List Record) → read_log log ≡ readable records
-      → (i : ℕ) → i < length records → get_or marks i 0 ≡ get_or kept (operation_at records i) 0
+      → (i : ℕ) → i < length records → is_set marks i ≡ is_set kept (operation_at records i)

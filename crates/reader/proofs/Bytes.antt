@@ -10,14 +10,13 @@ use lib.ListN.{length, get_or, take, drop, length-append, length-reverse, get_or
 use lib.Seq.{take-add, take-length, take-append-le, take-append_seam, take-append-add, drop-cons, drop-drop, get_or-append_seam}
 use lib.Dec.{eqb}
 use borrow.Author.Tests.{eqb-true, eqb-false}
-use Rattle.std.specs.Prelude.{if◌then◌else◌}
+use Rattle.std.specs.Prelude.{Result, Ok, Err, if◌then◌else◌}
 use Rattle.record.specs.Number.{big_endian, bytes_of, Bytes}
 use Rattle.record.specs.Frame.{frame_at}
 use Rattle.record.specs.Record.{kind_of, length_of, event_of, encode, record_at, decode_in, decode_at, size_of, value_in, Small}
-use Rattle.record.specs.declared.frame.Frame.{Frame}
-use Rattle.record.specs.declared.frame.Frame.TheVariants.{Framed, Cut}
+use Rattle.record.specs.declared.refusal.Refusal.{Refusal}
+use Rattle.record.specs.declared.refusal.Refusal.TheVariants.{UnknownKind, WrongLength}
 use Rattle.record.specs.declared.record.Record.{Record}
-use Rattle.record.specs.declared.record.Decoded.TheVariants.{Found, Malformed}
 use Rattle.record.proofs.Laws.{WholeFrame, frame_inverts}
 use Rattle.record.proofs.Numbers.{number_back, number_small}
 use Rattle.record.proofs.Records.{kind_back, event_least, event_most, value_within, value_fills}
@@ -27,7 +26,7 @@ use Rattle.reader.proofs.Run.{Run, done, more, Read}
 
 -- a record stands at a position: its bytes are there, its fields are those bytes, and the next position is where it ends
 pub record Stood (log : List ℕ) (at : ℕ) (r : Record) (next : ℕ) : Type 0 where
-  pub framed : frame_at log at ≡ Framed next
+  pub framed : frame_at log at ≡ Ok next
   pub inside : at < length log
   pub fits : at + size_of r ≤ length log
   pub long : get_or log at 0 ≡ length_of (kind_of r.event)
@@ -38,23 +37,27 @@ pub record Stood (log : List ℕ) (at : ℕ) (r : Record) (next : ℕ) : Type 0 
   pub ends : next ≡ at + size_of r
 
 -- a record that is found stands there
-pub decode_inverts : (log : List ℕ) (at : ℕ) {r : Record} {next : ℕ} → decode_at log at ≡ Found r next → Stood log at r next
+pub decode_inverts : (log : List ℕ) (at : ℕ) {r : Record} {next : ℕ} → decode_at log at ≡ Ok (r, next) → Stood log at r next
 unfolding decode_at
 decode_inverts log at {r} {next} e = frame (frame_at log at) refl e
   where
     kind : ℕ
     kind = get_or log (at + 1) 0
 
-    never : {number : ℕ} → Malformed number ≡ Found r next → Stood log at r next
-    never e = let z : ◌≡◌ {A = ℕ} 0 1 = cc in absurd (omega arith)
+    found : Record → ℕ → Result (Record × ℕ) Refusal
+    found r next = Ok (r, next)
 
-    known : (d e : Bool) {end : ℕ} → frame_at log at ≡ Framed end → WholeFrame log at end → eqb (length_of kind) 0 ≡ d → eqb (get_or log at 0) (length_of kind) ≡ e
-        → (if d then Malformed 4 else if not e then Malformed 5 else Found (record_at log at) end) ≡ Found r next → Stood log at r next
+    never : {refusal : Refusal} → ◌≡◌ {A = Result (Record × ℕ) Refusal} (Err refusal) (Ok (r, next)) → Stood log at r next
+    never e = cc
+
+    known : (d e : Bool) {end : ℕ} → frame_at log at ≡ Ok end → WholeFrame log at end → eqb (length_of kind) 0 ≡ d → eqb (get_or log at 0) (length_of kind) ≡ e
+        → (if d then Err UnknownKind else if not e then Err WrongLength else found (record_at log at) end) ≡ found r next → Stood log at r next
     known true e framed whole td te f = never f
     known false false framed whole td te f = never f
     known false true {end} framed whole td te f =
-        let is : r ≡ record_at log at = cc in
-        let on : next ≡ end = cc in
+        let both : ◌≡◌ {A = Record × ℕ} (r, next) (record_at log at, end) = cc in
+        let is = ap (λ (p : Record × ℕ). p.0) both in
+        let on = ap (λ (p : Record × ℕ). p.1) both in
         let same : kind_of r.event ≡ kind = ap (λ (r : Record). kind_of r.event) is ∙ kind_back kind (big_endian log (at + 8) 4) (eqb-false (length_of kind) 0 td) in
         let long : get_or log at 0 ≡ length_of (kind_of r.event) = eqb-true (get_or log at 0) (length_of kind) te ∙ ap length_of (sym same) in
         record {
@@ -69,9 +72,9 @@ decode_inverts log at {r} {next} e = frame (frame_at log at) refl e
           ends = omega (arith, whole.ends);
         }
 
-    frame : (f : Frame) → frame_at log at ≡ f → decode_in log at f ≡ Found r next → Stood log at r next
-    frame (Cut number) is e = never e
-    frame (Framed end) is e = known (eqb (length_of kind) 0) (eqb (get_or log at 0) (length_of kind)) is (frame_inverts log at refl is) refl refl e
+    frame : (f : Result ℕ Refusal) → frame_at log at ≡ f → decode_in log at f ≡ Ok (r, next) → Stood log at r next
+    frame (Err refusal) is e = never e
+    frame (Ok end) is e = known (eqb (length_of kind) 0) (eqb (get_or log at 0) (length_of kind)) is (frame_inverts log at refl is) refl refl e
 
 -- a byte and the part behind it are one part
 ahead : (log : List ℕ) (at next n size : ℕ) → at < length log → next ≡ suc at → size ≡ suc n → get_or log at 0 ∷ take n (drop next log) ≡ take size (drop at log)
@@ -139,11 +142,11 @@ encode_snoc (x ∷ records) r = rw (encode_snoc records r, append_assoc)
 record Filled (log : List ℕ) (records : List Record) (at : ℕ) : Type 0 where
   ends : at ≡ header_length + sizes records
   within : at ≤ length log
-  stands : (i : ℕ) → i < length records → decode_at log (offset_of records i) ≡ Found (record_of records i) (offset_of records (i + 1))
+  stands : (i : ℕ) → i < length records → decode_at log (offset_of records i) ≡ Ok (record_of records i, offset_of records (i + 1))
   bytes : Bytes log → take at log ≡ take header_length log ++ encode_all records
 
 -- one more record fills it up to where that record ends
-filled_more : {log : List ℕ} {records : List Record} {at next : ℕ} {r : Record} → Filled log records at → decode_at log at ≡ Found r next → Filled log (records ++ (r ∷ [])) next
+filled_more : {log : List ℕ} {records : List Record} {at next : ℕ} {r : Record} → Filled log records at → decode_at log at ≡ Ok (r, next) → Filled log (records ++ (r ∷ [])) next
 filled_more {log} {records} {at} {next} {r} f found = record {
   ends = ends;
   within = omega (arith, s.ends, s.fits);
@@ -158,7 +161,7 @@ filled_more {log} {records} {at} {next} {r} f found = record {
     ends = omega (arith, sizes_snoc records r, s.ends)
 
     stands : (i : ℕ) → (i ≡ length records) ⊎ (i < length records)
-        → decode_at log (offset_of (records ++ (r ∷ [])) i) ≡ Found (record_of (records ++ (r ∷ [])) i) (offset_of (records ++ (r ∷ [])) (i + 1))
+        → decode_at log (offset_of (records ++ (r ∷ [])) i) ≡ Ok (record_of (records ++ (r ∷ [])) i, offset_of (records ++ (r ∷ [])) (i + 1))
     stands i (inl e) = rw (e, take-append_seam records (r ∷ []), take-append-add records (r ∷ []) 1, get_or-append_seam, ← ends, ← f.ends) found
     stands i (inr h) = rw (take-append-le i records (r ∷ []) (omega arith), take-append-le (i + 1) records (r ∷ []) (omega arith), get_or-append _ _ _ i h) (f.stands i h)
 
@@ -194,7 +197,7 @@ module _ {log : List ℕ} {records : List Record} (read : Read log records) wher
   few_law = omega (arith, count_law)
 
   -- each stands where those before it end
-  pub stands_law : (i : ℕ) → i < length records → decode_at log (offset_of records i) ≡ Found (record_of records i) (offset_of records (i + 1))
+  pub stands_law : (i : ℕ) → i < length records → decode_at log (offset_of records i) ≡ Ok (record_of records i, offset_of records (i + 1))
   stands_law = filled.stands
 
   -- the last one ends where the log does

@@ -1,5 +1,5 @@
 -- What the code of a client says: the call that is pending, and whether the client has returned at a tick.
-use Prim.Native.Nat.{ℕ, suc, ◌+◌, ◌-◌, ◌*◌, ◌/◌, ◌%◌, ◌≤◌, ◌<◌}
+use Prim.Native.Nat.{ℕ, suc, ◌+◌, ◌*◌, ◌/◌, ◌%◌, ◌≤◌, ◌<◌}
 use native.Mathlib.Omega.{arith}
 use native.Mathlib.Decide.{dec_lt}
 use mathlib.Core.Path.{◌≡◌, refl, sym, ◌∙◌}
@@ -8,7 +8,7 @@ use mathlib.Core.List.{List, [], ◌∷◌}
 use lib.ListN.{length, get_or}
 use lib.Dec.{ltb, eqb}
 use borrow.Author.Tests.{lt-ltb, le-ltb, eq-eqb, ne_eqb, eqb-true, eqb-false}
-use Rattle.std.specs.Prelude.{if◌then◌else◌}
+use Rattle.std.specs.Prelude.{Option, Some, None, unwrap_or, min, if◌then◌else◌}
 use Rattle.record.specs.declared.record.Record.{Record}
 use Rattle.reader.specs.Log.{is_call, leaves, pending_kind, returned_at, last_tick}
 use Rattle.reader.specs.Tables.{code_of, start_of, Rising, first, more, LeastRemove}
@@ -87,21 +87,38 @@ returned_code (more {r} {past} rise rest) client tick l idle = go (eqb r.tick ti
     go false t false c idle ih =
         returned_never (more {r = r} rise rest) client tick (omega (arith, eqb-false r.tick tick t)) ∙ sym (le-ltb (suc (length past)) (code_of past client / 4) (omega (arith, code_few past client)))
 
--- the lowest index of a pending remove, from an index on, among the first codes: among none, and among one more, which has a lower one or has not
-pub least_none : (codes : List ℕ) (from none : ℕ) → LeastRemove codes 0 from none none
-least_none codes from none = record { within = omega arith; least = λ p h. absurd (omega arith); there = λ h. absurd (omega arith) }
-
-module _ {codes : List ℕ} {i from none least : ℕ} (found : LeastRemove codes i from none least) where
-  pub least_same : (get_or codes i 0 % 4 ≡ 2 → from < get_or codes i 0 / 4 → least < get_or codes i 0 / 4) → LeastRemove codes (i + 1) from none least
-  least_same not_lower = record { within = found.within; least = λ p h e. by p h e (dec_lt p i); there = λ h. let (l, (p, b, e)) = found.there h in (l, (p, omega arith, e)) }
+-- the lowest index of a pending remove, from an index on, among one code more, which has one or has not
+module _ (codes : List ℕ) (i : ℕ) {from : ℕ} where
+  pub least_same : (r : Option ℕ) → LeastRemove codes i from r → (get_or codes i 0 % 4 ≡ 2 → from < get_or codes i 0 / 4 → ⊥) → LeastRemove codes (i + 1) from r
+  least_same (Some r) (behind, (p, h, e), least) other = (behind, (p, omega arith, e), λ q l pending after. by q l pending after (dec_lt q i))
     where
-      by : (p : ℕ) → p < i + 1 → get_or codes p 0 % 4 ≡ 2 → Dec (p < i) → from < get_or codes p 0 / 4 → least < get_or codes p 0 / 4
-      by p h e (yes l) = found.least p l e
-      by p h e (no n) = let same : p ≡ i = omega arith in rw same (not_lower (rw same at e))
-
-  pub least_lower : get_or codes i 0 % 4 ≡ 2 → 4 ≤ get_or codes i 0 → from ≤ get_or codes i 0 / 4 - 1 → get_or codes i 0 / 4 - 1 < least → LeastRemove codes (i + 1) from none (get_or codes i 0 / 4 - 1)
-  least_lower pending some behind lower = record { within = omega (arith, found.within); least = λ p h e. by p h e (dec_lt p i); there = λ h. (behind, (i, omega arith, omega arith)) }
+      by : (q : ℕ) → q < i + 1 → get_or codes q 0 % 4 ≡ 2 → from < get_or codes q 0 / 4 → Dec (q < i) → r < get_or codes q 0 / 4
+      by q l pending after (yes below) = least q below pending after
+      by q l pending after (no n) = let same : q ≡ i = omega arith in absurd (other (rw same at pending) (rw same at after))
+  least_same None least other = λ q l pending after. by q l pending after (dec_lt q i)
     where
-      by : (p : ℕ) → p < i + 1 → get_or codes p 0 % 4 ≡ 2 → Dec (p < i) → from < get_or codes p 0 / 4 → get_or codes i 0 / 4 - 1 < get_or codes p 0 / 4
-      by p h e (yes l) m = omega (arith, found.least p l e m)
-      by p h e (no n) m = let same : p ≡ i = omega arith in rw same (omega arith)
+      by : (q : ℕ) → q < i + 1 → get_or codes q 0 % 4 ≡ 2 → from < get_or codes q 0 / 4 → Dec (q < i) → ⊥
+      by q l pending after (yes below) = least q below pending after
+      by q l pending after (no n) = let same : q ≡ i = omega arith in other (rw same at pending) (rw same at after)
+
+  pub least_more : (r : Option ℕ) → LeastRemove codes i from r → {index : ℕ} → get_or codes i 0 ≡ (index + 1) * 4 + 2 → from ≤ index → LeastRemove codes (i + 1) from (Some (min (unwrap_or r index) index))
+  least_more (Some r) (behind, (p, h, e), least) {index} is after = by (dec_lt r index)
+    where
+      lowest : (n : ℕ) → n ≤ r → n ≤ index → (q : ℕ) → q < i + 1 → get_or codes q 0 % 4 ≡ 2 → from < get_or codes q 0 / 4 → Dec (q < i) → n < get_or codes q 0 / 4
+      lowest n a b q l pending after (yes below) = omega (arith, least q below pending after)
+      lowest n a b q l pending after (no other) = let same : q ≡ i = omega arith in rw same (omega arith)
+
+      by : Dec (r < index) → LeastRemove codes (i + 1) from (Some (min r index))
+      by (yes l) =
+          let old : min r index ≡ r = omega arith in
+          rw old (behind, (p, omega arith, e), λ q l pending after. lowest r (omega arith) (omega arith) q l pending after (dec_lt q i))
+      by (no n) =
+          let new : min r index ≡ index = omega arith in
+          rw new (after, (i, omega arith, is), λ q l pending after. lowest index (omega arith) (omega arith) q l pending after (dec_lt q i))
+  least_more None least {index} is after =
+      let new : min index index ≡ index = omega arith in
+      rw new (after, (i, omega arith, is), λ q l pending behind. by q l pending behind (dec_lt q i))
+    where
+      by : (q : ℕ) → q < i + 1 → get_or codes q 0 % 4 ≡ 2 → from < get_or codes q 0 / 4 → Dec (q < i) → index < get_or codes q 0 / 4
+      by q l pending behind (yes below) = absurd (least q below pending behind)
+      by q l pending behind (no other) = let same : q ≡ i = omega arith in rw same (omega arith)

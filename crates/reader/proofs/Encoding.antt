@@ -4,14 +4,14 @@ use native.Mathlib.Omega.{arith}
 use mathlib.Core.Path.{◌≡◌, refl}
 use mathlib.Core.List.{List, [], ◌∷◌, ◌++◌, reverse, reverse-cons, append_assoc, append-nil}
 use lib.ListN.{length, length-append}
-use borrow.Author.Tests.{le-ltb, eq-eqb}
+use borrow.Author.Tests.{le-ltb}
+use Rattle.std.specs.Prelude.{Ok}
 use Rattle.record.specs.Number.{bytes_of}
 use Rattle.record.specs.Record.{encode, decode_at, size_of}
 use Rattle.record.specs.declared.record.Record.{Record}
-use Rattle.record.specs.declared.record.Decoded.TheVariants.{Found}
 use Rattle.record.proofs.Numbers.{number_there}
 use Rattle.record.proofs.Laws.{encode_length, written_record}
-use Rattle.reader.specs.Log.{log_version, header_length, max_records, count_field, readable, fault, scan, read_partial, encode_all, encode_log}
+use Rattle.reader.specs.Log.{log_version, header_length, max_records, count_field, readable, scan, read_partial, encode_all, encode_log}
 use Rattle.reader.specs.Readable.{Writable, none, more}
 
 -- written one behind the other, records are read one after the other
@@ -22,10 +22,10 @@ scan_encodes before {past} (more {records = records} {r = r} small ok rest) =
     let after : List ℕ = encode_all records in
     let whole : List ℕ = before ++ encode_all (r ∷ records) in
     let glued : (before ++ encode r) ++ after ≡ whole = append_assoc before (encode r) after in
-    let found : decode_at whole (length before) ≡ Found r (length before + size_of r) = rw glued at (written_record before after r small) in
+    let found : decode_at whole (length before) ≡ Ok (r, length before + size_of r) = rw glued at (written_record before after r small) in
     let next : length before + size_of r ≡ length (before ++ encode r) = rw (length-append before (encode r), encode_length r) refl in
     let behind : scan whole (length records) (length (before ++ encode r)) (r ∷ past) ≡ readable (reverse (r ∷ past) ++ records) = rw glued at (scan_encodes (before ++ encode r) rest) in
-    rw (found, eq-eqb (fault past r) 0 ok, next, behind, reverse-cons r past, append_assoc (reverse past) (r ∷ []) records) refl
+    rw (found, ok, next, behind, reverse-cons r past, append_assoc (reverse past) (r ∷ []) records) refl
 
 -- a log of records that can be written is read as those records
 pub log_encodes : (records : List Record) → length records ≤ max_records → Writable [] records → read_partial (encode_log records) ≡ readable records

@@ -1,18 +1,20 @@
 -- The laws of a readable log, for everything above the reader. specs/Readable.antt says what each part means.
 use Prim.Native.Nat.{ℕ, ◌+◌, ◌≤◌, ◌<◌}
 use native.Mathlib.Omega.{arith}
-use mathlib.Core.Path.{◌≡◌, refl}
+use mathlib.Core.Path.{◌≡◌, refl, ap}
 use mathlib.Core.Bool.{Bool, true, false}
 use mathlib.Core.Logic.{◌⊎◌, inl, inr}
 use mathlib.Core.List.{List, [], ◌++◌}
 use lib.ListN.{length, length-reverse}
 use lib.Dec.{ltb}
 use borrow.Author.Tests.{ltb-false}
-use Rattle.std.specs.Prelude.{if◌then◌else◌}
+use Rattle.std.specs.Prelude.{Ok, Err, if◌then◌else◌}
+use Rattle.record.specs.declared.refusal.Refusal.TheVariants.{RemovePending}
 use Rattle.record.specs.declared.record.Record.{Record}
 use Rattle.reader.specs.Log.{max_records, encode_log, Reading, readable, refused, second_remove, read_partial, complete, read_log, operations, checked}
 use Rattle.reader.specs.Readable.{Within, record_of, asks, Next, Regular, PartialLog, ReadableLog, Writable}
-use Rattle.reader.specs.declared.log.Checked.TheVariants.{Readable, Refused}
+use Rattle.record.specs.declared.refusal.Refused.{Refused}
+use Rattle.reader.specs.declared.log.Counts.{Counts}
 use Rattle.reader.proofs.Bounds.{partial_within, log_within}
 use Rattle.reader.proofs.Keeping.{operations_few}
 use Rattle.reader.proofs.Scanning.{operations_append}
@@ -63,11 +65,11 @@ partial_log log records e = read_partial_lem (reads log records e)
 completed : (reading : Reading) (records : List Record) → complete reading ≡ readable records → (reading ≡ readable records) × (length records ≤ second_remove records)
 completed (readable rs) records e = go (ltb (second_remove rs) (length rs)) refl e
   where
-    go : (b : Bool) → ltb (second_remove rs) (length rs) ≡ b → (if b then refused 10 (second_remove rs) else readable rs) ≡ readable records
+    go : (b : Bool) → ltb (second_remove rs) (length rs) ≡ b → (if b then refused RemovePending (second_remove rs) else readable rs) ≡ readable records
         → (readable rs ≡ readable records) × (length records ≤ second_remove records)
-    go true t e = let z : ◌≡◌ {A = ℕ} 0 1 = cc in absurd (omega arith)
+    go true t e = cc
     go false t e = let same : rs ≡ records = cc in (e, rw same at (ltb-false (second_remove rs) (length rs) t))
-completed (refused number index) records e = let z : ◌≡◌ {A = ℕ} 0 1 = cc in absurd (omega arith)
+completed (refused refusal index) records e = cc
 
 -- a readable log
 pub readable_log : (log : List ℕ) (records : List Record) → read_log log ≡ readable records → ReadableLog log records
@@ -81,13 +83,15 @@ pub readable_is_partial : (log : List ℕ) (records : List Record) → read_log 
 readable_is_partial log records e = (completed (read_partial log) records e).0
 
 -- what the answer of a check says of the reading behind it
-pub checked_readable : (reading : Reading) {n m : ℕ} → checked reading ≡ Readable n m → (records : List Record) × (reading ≡ readable records) × (length records ≡ n) × (operations records ≡ m)
-checked_readable (readable records) e = (records, refl, cc, cc)
-checked_readable (refused number index) e = let z : ◌≡◌ {A = ℕ} 0 1 = cc in absurd (omega arith)
+pub checked_readable : (reading : Reading) {counts : Counts} → checked reading ≡ Ok counts → (records : List Record) × (reading ≡ readable records) × (length records ≡ counts.records) × (operations records ≡ counts.operations)
+checked_readable (readable records) {counts} e =
+    let same : record { records = length records; operations = operations records } ≡ counts = cc in
+    (records, refl, ap (λ (c : Counts). c.records) same, ap (λ (c : Counts). c.operations) same)
+checked_readable (refused refusal index) e = cc
 
-pub checked_refused : (reading : Reading) {number index : ℕ} → checked reading ≡ Refused number index → reading ≡ refused number index
-checked_refused (readable records) e = let z : ◌≡◌ {A = ℕ} 0 1 = cc in absurd (omega arith)
-checked_refused (refused n i) {number} {index} e = let p : n ≡ number = cc in let q : i ≡ index = cc in rw (p, q) refl
+pub checked_refused : (reading : Reading) {r : Refused} → checked reading ≡ Err r → reading ≡ refused r.refusal r.index
+checked_refused (readable records) e = cc
+checked_refused (refused refusal index) {r} e = let same : record { refusal = refusal; index = index } ≡ r = cc in ap (λ (r : Refused). refused r.refusal r.index) same
 
 -- a record has a next one of its client, or no later one
 pub follows : (records : List Record) (i : ℕ) → ((j : ℕ) × Next records i j) ⊎ ((k : ℕ) → i < k → k < length records → (record_of records k).client ≡ (record_of records i).client → ⊥)

@@ -8,6 +8,7 @@ use mathlib.Core.List.{List, [], ◌∷◌, ◌++◌, reverse, reverse-cons, app
 use lib.ListN.{length, length-append, length-reverse, get_or-append}
 use lib.Seq.{get_or_at}
 use borrow.Author.Tests.{le-ltb, ne_eqb}
+use Rattle.std.specs.Prelude.{Ok}
 use Rattle.record.specs.Number.{Bytes}
 use Rattle.record.specs.Record.{Small}
 use Rattle.record.specs.declared.record.Event.TheVariants.{CallAdd}
@@ -99,7 +100,7 @@ module _ (past rest : List Record) (r : Record) (orderly : Orderly (reverse past
   value_new v e = value_absent past v (λ i h q. orderly.regular.once i (length past) v h there (rw (before i h) q) (rw here e))
 
   -- so nothing is wrong with it
-  fault_free : fault past r ≡ 0
+  fault_free : fault past r ≡ Ok tt
   fault_free = fault_none (record { tick = tick_kept; asked = call_pending; later = tick_later; fresh = value_new })
 
 -- so orderly records can be written

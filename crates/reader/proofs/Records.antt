@@ -11,6 +11,7 @@ use lib.ListN.{length, length-reverse, get_or-append}
 use lib.Seq.{get_or-append_seam}
 use lib.Dec.{eqb}
 use borrow.Author.Tests.{eq-eqb, ne_eqb, eqb-false, ltb-true, ltb-false}
+use Rattle.std.specs.Prelude.{Ok}
 use Rattle.record.specs.declared.record.Event.{Event}
 use Rattle.record.specs.declared.record.Event.TheVariants.{CallAdd, CallRemove, ReturnAdd, ReturnRemove}
 use Rattle.record.specs.declared.record.Record.{Record}
@@ -163,7 +164,7 @@ first_law (r ∷ past) (more ok a) j h alone = go (eq-or-lt_of_le (omega arith))
 
 -- What holds of every record and the latest one before it of its client holds of every record and the next one of its client.
 by_next : (P : Record → Record → Type 0)
-    → ((past : List Record) (r : Record) → fault past r ≡ 0 → (i : ℕ) → i < length past → Last (reverse past) i → r.client ≡ (nth past i).client → Admits past → P (nth past i) r)
+    → ((past : List Record) (r : Record) → fault past r ≡ Ok tt → (i : ℕ) → i < length past → Last (reverse past) i → r.client ≡ (nth past i).client → Admits past → P (nth past i) r)
     → (past : List Record) → Admits past → (i j : ℕ) → Next (reverse past) i j → P (nth past i) (nth past j)
 by_next P step [] none i j n = absurd (omega (arith, n.there))
 by_next P step (r ∷ past) (more ok a) i j n = go (eq-or-lt_of_le (omega (arith, n.there, length-reverse (r ∷ past)))) (by_next P step past a i j)
@@ -196,7 +197,7 @@ next_law = by_next (λ before r. asks r.event ≡ leaves before.event) (λ past 
 pub rises_law : (past : List Record) → Admits past → (i j : ℕ) → Next (reverse past) i j → is_call (nth past j).event ≡ 1 → (nth past i).tick < (nth past j).tick
 rises_law = by_next (λ before r. is_call r.event ≡ 1 → before.tick < r.tick) higher
   where
-    higher : (past : List Record) (r : Record) → fault past r ≡ 0 → (i : ℕ) → i < length past → Last (reverse past) i → r.client ≡ (nth past i).client → Admits past → is_call r.event ≡ 1 → (nth past i).tick < r.tick
+    higher : (past : List Record) (r : Record) → fault past r ≡ Ok tt → (i : ℕ) → i < length past → Last (reverse past) i → r.client ≡ (nth past i).client → Admits past → is_call r.event ≡ 1 → (nth past i).tick < r.tick
     higher past r ok i h last own a c =
         let fine = no_fault past r ok in
         let idle : leaves (nth past i).event ≡ asks r.event = sym (kind_latest past i h last) ∙ ap (pending_kind past) (sym own) ∙ fine.asked in

@@ -1,18 +1,18 @@
 -- Document 01, "The log" and "Turned down by what was handed in", with document 02, changes 3 (refusal 31) and 4 (refusal 10): what a whole log is
 -- read as. The records come one after the other; each is held against those before it, which stand here latest first; then left bytes, then 10.
-use Rattle.std.specs.Prelude.{ℕ, zero, suc, ◌+◌, Bool, false, not, List, [], ◌∷◌, ◌++◌, map, reverse, length, get_or, drop, ltb, eqb, if◌then◌else◌}
+use Rattle.std.specs.Prelude.{ℕ, zero, suc, ◌+◌, Bool, false, not, List, Result, Ok, Err, [], ◌∷◌, ◌++◌, map, reverse, length, get_or, drop, ltb, eqb, if◌then◌else◌}
 use Rattle.record.specs.Number.{big_endian, bytes_of}
-use Rattle.record.specs.Refusal.{wrong_bytes, wrong_version, too_many_records, tick_fell, client_busy, no_such_call, added_twice, remove_pending, tick_repeated}
+use Rattle.record.specs.Refusal.{refusing}
+use Rattle.record.specs.declared.refusal.Refusal.{Refusal}
+use Rattle.record.specs.declared.refusal.Refusal.TheVariants.{WrongBytes, WrongVersion, TooManyRecords, TickFell, ClientBusy, NoSuchCall, AddedTwice, RemovePending, TickRepeated}
+use Rattle.record.specs.declared.refusal.Refused.{Refused}
 use Rattle.record.specs.Record.{encode, decode_at}
 use Rattle.record.specs.declared.record.Event.{Event}
 use Rattle.record.specs.declared.record.Event.TheVariants.{CallAdd, CallRemove, ReturnAdd, ReturnRemove}
 use Rattle.record.specs.declared.record.Record.{Record}
-use Rattle.record.specs.declared.record.Decoded.{Decoded}
-use Rattle.record.specs.declared.record.Decoded.TheVariants.{Found, Malformed}
 use Rattle.buffer.specs.Buffer.{put}
 use Rattle.table.specs.Table.{is_in}
-use Rattle.reader.specs.declared.log.Checked.{Checked}
-use Rattle.reader.specs.declared.log.Checked.TheVariants.{Readable, Refused}
+use Rattle.reader.specs.declared.log.Counts.{Counts}
 
 -- "Byte 0 is the version, 1. Bytes 1 and 2 are n, the number of records, at most 1,024."
 abbrev pub log_version : ℕ
@@ -86,40 +86,41 @@ abbrev pub last_tick : List Record → ℕ
 last_tick [] = 0
 last_tick (r ∷ past) = r.tick
 
--- 7, 31, 8 and 9: what is wrong with an event of a client whose pending call has this kind, and whose last return has its tick or has not; 0 for nothing
-unfoldable pub event_fault : Event → ℕ → Bool → List ℕ → ℕ
+-- 7, 31, 8 and 9: whether anything is wrong with an event of a client whose pending call has this kind, and whose last return has its tick or has not
+unfoldable pub event_fault : Event → ℕ → Bool → List ℕ → Result (Unit {0}) Refusal
 event_fault (CallAdd v) pending repeats values =
-    if not (eqb pending 0) then client_busy else
-    if repeats then tick_repeated else
-    if is_in v values then added_twice else
-    0
-event_fault CallRemove pending repeats values = if not (eqb pending 0) then client_busy else if repeats then tick_repeated else 0
-event_fault ReturnAdd pending repeats values = if not (eqb pending add_call) then no_such_call else 0
-event_fault (ReturnRemove x) pending repeats values = if not (eqb pending remove_call) then no_such_call else 0
+    if not (eqb pending 0) then Err ClientBusy else
+    if repeats then Err TickRepeated else
+    if is_in v values then Err AddedTwice else
+    Ok tt
+event_fault CallRemove pending repeats values = if not (eqb pending 0) then Err ClientBusy else if repeats then Err TickRepeated else Ok tt
+event_fault ReturnAdd pending repeats values = if not (eqb pending add_call) then Err NoSuchCall else Ok tt
+event_fault (ReturnRemove x) pending repeats values = if not (eqb pending remove_call) then Err NoSuchCall else Ok tt
 
--- 6, 7, 31, 8 and 9: what is wrong with a record behind those before it; 0 for nothing
-unfoldable pub fault : List Record → Record → ℕ
+-- 6, 7, 31, 8 and 9: whether anything is wrong with a record behind those before it
+unfoldable pub fault : List Record → Record → Result (Unit {0}) Refusal
 fault past r =
-    if ltb r.tick (last_tick past) then tick_fell else
+    if ltb r.tick (last_tick past) then Err TickFell else
     event_fault r.event (pending_kind past r.client) (returned_at past r.client r.tick) (added_values past)
 
 -- what a log is read as: its records, first to last, or a refusal with its number and index (of `read_partial` below: readable but for 10; of a session,
 -- also a refusal by how it stands)
 pub data Reading : Type 0 where
   readable : List Record → Reading
-  refused : ℕ → ℕ → Reading
+  refused : Refusal → ℕ → Reading
 
 -- reading goes on behind a record that is found, and ends at one that is malformed or has a fault
-abbrev pub after_decode : Decoded → ℕ → (Record → ℕ → Reading) → Reading
-after_decode (Found r next) index rest = rest r next
-after_decode (Malformed number) index rest = refused number index
+abbrev pub after_decode : Result (Record × ℕ) Refusal → ℕ → (Record → ℕ → Reading) → Reading
+after_decode (Ok (r, next)) index rest = rest r next
+after_decode (Err refusal) index rest = refused refusal index
 
-abbrev pub unless_fault : ℕ → ℕ → Reading → Reading
-unless_fault number index rest = if eqb number 0 then rest else refused number index
+abbrev pub unless_fault : Result (Unit {0}) Refusal → ℕ → Reading → Reading
+unless_fault (Ok _) index rest = rest
+unless_fault (Err refusal) index rest = refused refusal index
 
 -- the records from position `at` on, `left` of them, behind those of the past
 unfoldable pub scan : List ℕ → ℕ → ℕ → List Record → Reading
-scan log zero at past = if ltb at (length log) then refused wrong_bytes (length past) else readable (reverse past)
+scan log zero at past = if ltb at (length log) then refused WrongBytes (length past) else readable (reverse past)
 scan log (suc left) at past =
     after_decode (decode_at log at) (length past)
     (λ r next. unless_fault (fault past r) (length past) (scan log left next (r ∷ past)))
@@ -127,9 +128,9 @@ scan log (suc left) at past =
 -- a log but for 10
 unfoldable pub read_partial : List ℕ → Reading
 read_partial log =
-    if ltb (length log) header_length then refused wrong_bytes 0 else
-    if not (eqb (get_or log 0 0) log_version) then refused wrong_version 0 else
-    if ltb max_records (count_field log) then refused too_many_records 0 else
+    if ltb (length log) header_length then refused WrongBytes 0 else
+    if not (eqb (get_or log 0 0) log_version) then refused WrongVersion 0 else
+    if ltb max_records (count_field log) then refused TooManyRecords 0 else
     scan log (count_field log) header_length []
 
 -- the clients of records
@@ -159,8 +160,8 @@ has_pending_remove records = ltb (pending_remove records) (length records)
 -- 10, the last test. Document 02, change 4: "Refusal 10 is now for a second remove without return, with the index of its call."
 abbrev pub complete : Reading → Reading
 complete (readable records) =
-    if ltb (second_remove records) (length records) then refused remove_pending (second_remove records) else readable records
-complete (refused number index) = refused number index
+    if ltb (second_remove records) (length records) then refused RemovePending (second_remove records) else readable records
+complete (refused refusal index) = refused refusal index
 
 -- a log: "A log with none of 1 to 10, nor with a refusal that a later change puts before or among them, is readable."
 abbrev pub read_log : List ℕ → Reading
@@ -171,10 +172,10 @@ unfoldable pub operations : List Record → ℕ
 operations [] = 0
 operations (r ∷ records) = is_call r.event + operations records
 
--- the answer of a check: the number of records and of operations, or the refusal's number and index
-abbrev pub checked : Reading → Checked
-checked (readable records) = Readable (length records) (operations records)
-checked (refused number index) = Refused number index
+-- the answer of a check: the number of records and of operations, or the refusal with its index
+abbrev pub checked : Reading → Result Counts Refused
+checked (readable records) = Ok (record { records = length records; operations = operations records })
+checked (refused refusal index) = refusing refusal index
 
 -- the bytes of records, one after the other
 unfoldable pub encode_all : List Record → List ℕ

@@ -1,13 +1,12 @@
 -- What holds of the records of a readable log: the facts that everything above the reader may rest on.
 -- Document 01, "The log" and "Turned down by what was handed in".
-use Rattle.std.specs.Prelude.{ℕ, ◌+◌, ◌≤◌, ◌<◌, ◌≡◌, List, [], ◌∷◌, length, get_or, take}
+use Rattle.std.specs.Prelude.{ℕ, ◌+◌, ◌≤◌, ◌<◌, ◌≡◌, List, Ok, [], ◌∷◌, length, get_or, take}
 use Rattle.record.specs.Number.{Bytes}
-use Rattle.record.specs.Refusal.{max_refusal}
+use Rattle.record.specs.Refusal.{number_of, max_refusal}
 use Rattle.record.specs.Record.{size_of, Small, decode_at}
 use Rattle.record.specs.declared.record.Event.{Event}
 use Rattle.record.specs.declared.record.Event.TheVariants.{CallAdd, CallRemove, ReturnAdd, ReturnRemove}
 use Rattle.record.specs.declared.record.Record.{Record}
-use Rattle.record.specs.declared.record.Decoded.TheVariants.{Found}
 use Rattle.reader.specs.Log.{log_version, header_length, max_records, max_length, add_call, remove_call, count_field}
 use Rattle.reader.specs.Log.{is_call, leaves, Reading, readable, refused, fault, encode_log}
 
@@ -15,7 +14,7 @@ use Rattle.reader.specs.Log.{is_call, leaves, Reading, readable, refused, fault,
 -- numbers leaves room for refusals that are not there yet; which ones a log is given is said by `read_log`.
 abbrev pub Within : Reading → Type 0
 Within (readable records) = length records ≤ max_records
-Within (refused number index) = (1 ≤ number) × (number ≤ max_refusal) × (index ≤ max_records)
+Within (refused refusal index) = (1 ≤ number_of refusal) × (number_of refusal ≤ max_refusal) × (index ≤ max_records)
 
 -- the record with an index; behind the last one a call of remove, which tells of no return
 abbrev pub record_of : List Record → ℕ → Record
@@ -47,7 +46,7 @@ pub record Next (records : List Record) (i j : ℕ) : Type 0 where
 -- Records that can be written behind those of the past: their fields fit, and nothing is wrong with any of them.
 pub data Writable : List Record → List Record → Type 0 where
   none : {past : List Record} → Writable past []
-  more : {past records : List Record} {r : Record} → Small r → fault past r ≡ 0 → Writable (r ∷ past) records → Writable past (r ∷ records)
+  more : {past records : List Record} {r : Record} → Small r → fault past r ≡ Ok tt → Writable (r ∷ past) records → Writable past (r ∷ records)
 
 -- What the records of a log obey that is readable but for 10.
 pub record Regular (records : List Record) : Type 0 where
@@ -70,7 +69,7 @@ pub record PartialLog (log : List ℕ) (records : List Record) : Type 0 where
   pub version : get_or log 0 0 ≡ log_version
   pub count : length records ≡ count_field log
   -- where each record stands, and that they fill the log
-  pub stands : (i : ℕ) → i < length records → decode_at log (offset_of records i) ≡ Found (record_of records i) (offset_of records (i + 1))
+  pub stands : (i : ℕ) → i < length records → decode_at log (offset_of records i) ≡ Ok (record_of records i, offset_of records (i + 1))
   pub fills : offset_of records (length records) ≡ length log
   pub short : length log ≤ max_length
   -- the records put back into bytes are the log

@@ -1,22 +1,22 @@
--- What the code keeps of the records that it has read, in tables of numbers and two maps. What a readable log is can be understood without this
+-- What the code keeps of the records that it has read, in two maps and a table of numbers. What a readable log is can be understood without this
 -- file.
-use Rattle.std.specs.Prelude.{ℕ, suc, ◌+◌, ◌*◌, ◌/◌, ◌%◌, ◌≤◌, ◌<◌, ◌≡◌, not, List, [], ◌∷◌, reverse, length, get_or, set, take, ltb, eqb, if◌then◌else◌}
-use Rattle.record.specs.Refusal.{wrong_bytes, wrong_version, too_many_records, tick_fell}
+use Rattle.std.specs.Prelude.{ℕ, suc, ◌+◌, ◌*◌, ◌/◌, ◌%◌, ◌≤◌, ◌<◌, ◌≡◌, not, List, Option, Some, None, Result, Ok, Err, [], ◌∷◌, reverse, length, get_or, set, take, ltb, eqb, if◌then◌else◌}
+use Rattle.record.specs.Refusal.{refusing}
+use Rattle.record.specs.declared.refusal.Refusal.{Refusal}
+use Rattle.record.specs.declared.refusal.Refusal.TheVariants.{WrongBytes, WrongVersion, TooManyRecords, TickFell}
+use Rattle.record.specs.declared.refusal.Refused.{Refused}
+use Rattle.record.specs.declared.record.Event.{Event}
+use Rattle.record.specs.declared.record.Event.TheVariants.{CallAdd, CallRemove, ReturnAdd, ReturnRemove}
 use Rattle.record.specs.declared.record.Record.{Record}
-use Rattle.map.specs.Map.{Latest, Linked, NarrowLinked}
+use Rattle.map.specs.Map.{Latest}
+use Rattle.map.specs.declared.map.Map.{Map}
 use Rattle.reader.specs.Log.{log_version, header_length, max_records, count_field, remove_call, leaves, Reading, readable}
 use Rattle.reader.specs.Log.{refused, added_values, last_tick, operations, second_remove, event_fault, fault, scan}
 use Rattle.reader.specs.Feed.{fault_behind}
 use Rattle.reader.specs.declared.clients.Standing.{Standing}
-use Rattle.reader.specs.declared.scan.Progress.{Progress}
-use Rattle.reader.specs.declared.scan.Step.{Step}
-use Rattle.reader.specs.declared.scan.Step.TheVariants.{Next, Stop}
-use Rattle.reader.specs.declared.scan.Pass.{Pass}
-use Rattle.reader.specs.declared.scan.Pass.TheVariants.{Through, Stopped}
-use Rattle.reader.specs.declared.header.Header.{Header}
-use Rattle.reader.specs.declared.header.Header.TheVariants.{Count, Wrong}
+use Rattle.reader.specs.declared.clients.Clients.{Clients}
+use Rattle.reader.specs.declared.scan.Tables.{Tables}
 use Rattle.reader.specs.declared.scan.Survey.{Survey}
-use Rattle.reader.specs.declared.scan.Survey.TheVariants.{Whole, Broken}
 
 -- what is kept of a client: how many records there are up to its latest one, times 4, plus the kind of the call that this one leaves pending; 0 if
 -- the client has no record
@@ -29,53 +29,41 @@ unfoldable pub start_of : List Record → ℕ → ℕ
 start_of [] tick = 0
 start_of (r ∷ past) tick = if eqb r.tick tick then start_of past tick else suc (length past)
 
--- the arrays: the clients met are the keys of a narrow map, and each has its code beside it; the values added are the keys of another map
-pub record Tables : Type 0 where
-  pub clients : List ℕ
-  pub heads : List ℕ
-  pub links : List ℕ
-  pub codes : List ℕ
-  pub values : List ℕ
-  pub chains : List ℕ
-
-abbrev pub tables : List ℕ → List ℕ → List ℕ → List ℕ → List ℕ → List ℕ → Tables
-tables clients heads links codes values chains = record { clients = clients; heads = heads; links = links; codes = codes; values = values; chains = chains }
-
--- Nothing has been entered.
+-- Nothing has been entered, and the first record is the next one to read.
 pub record New (t : Tables) : Type 0 where
-  pub met : NarrowLinked t.clients t.heads t.links 0
-  pub codes_sized : length t.codes ≡ max_records
-  pub codes_none : (p : ℕ) → get_or t.codes p 0 ≡ 0
-  pub added : Linked t.values t.chains 0
+  pub met : t.clients.map.count ≡ 0
+  pub codes_sized : length t.clients.codes ≡ max_records
+  pub codes_none : (p : ℕ) → get_or t.clients.codes p 0 ≡ 0
+  pub added : t.added.count ≡ 0
+  pub at : t.at ≡ header_length
+  pub tick : t.tick ≡ 0
+  pub start : t.start ≡ 0
+  pub operations : t.operations ≡ 0
 
 -- There is room for one record more.
-pub record Room (p : Progress) (t : Tables) : Type 0 where
-  pub clients : p.clients < max_records
-  pub added : p.added < max_records
-  pub operations : p.operations < max_records
-  pub met : NarrowLinked t.clients t.heads t.links p.clients
-  pub linked : Linked t.values t.chains p.added
+pub record Room (t : Tables) : Type 0 where
+  pub clients : t.clients.map.count < max_records
+  pub added : t.added.count < max_records
+  pub operations : t.operations < max_records
 
 -- Each entry in use has the code of a record.
 abbrev pub Coded : ℕ → List ℕ → Type 0
 Coded count codes = (p : ℕ) → p < count → 4 ≤ get_or codes p 0
 
 -- The map holds the clients of the past, each once, with their codes beside them.
-pub record ClientsKept (past : List Record) (count : ℕ) (t : Tables) : Type 0 where
-  pub linked : NarrowLinked t.clients t.heads t.links count
-  pub few : count ≤ length past
-  pub apart : (p q : ℕ) → p < count → q < count → get_or t.clients p 0 ≡ get_or t.clients q 0 → p ≡ q
-  pub codes_sized : length t.codes ≡ max_records
-  pub coded : Coded count t.codes
-  pub held : (p : ℕ) → p < count → get_or t.codes p 0 ≡ code_of past (get_or t.clients p 0)
-  pub unused : (p : ℕ) → count ≤ p → get_or t.codes p 0 ≡ 0
-  pub others : (client : ℕ) → ((p : ℕ) → p < count → get_or t.clients p 0 ≡ client → ⊥) → code_of past client ≡ 0
+pub record ClientsKept (past : List Record) (c : Clients) : Type 0 where
+  pub few : c.map.count ≤ length past
+  pub apart : (p q : ℕ) → p < c.map.count → q < c.map.count → get_or c.map.keys p 0 ≡ get_or c.map.keys q 0 → p ≡ q
+  pub codes_sized : length c.codes ≡ max_records
+  pub coded : Coded c.map.count c.codes
+  pub held : (p : ℕ) → p < c.map.count → get_or c.codes p 0 ≡ code_of past (get_or c.map.keys p 0)
+  pub unused : (p : ℕ) → c.map.count ≤ p → get_or c.codes p 0 ≡ 0
+  pub others : (client : ℕ) → ((p : ℕ) → p < c.map.count → get_or c.map.keys p 0 ≡ client → ⊥) → code_of past client ≡ 0
 
 -- The map holds the values added in the past.
-pub record AddedKept (past : List Record) (count : ℕ) (values chains : List ℕ) : Type 0 where
-  pub counted : count ≡ length (added_values past)
-  pub values_are : take count values ≡ added_values past
-  pub linked : Linked values chains count
+pub record AddedKept (past : List Record) (added : Map) : Type 0 where
+  pub counted : added.count ≡ length (added_values past)
+  pub values_are : take added.count added.keys ≡ added_values past
 
 -- The ticks of the past did not fall.
 pub data Rising : List Record → Type 0 where
@@ -83,78 +71,89 @@ pub data Rising : List Record → Type 0 where
   more : {r : Record} {past : List Record} → last_tick past ≤ r.tick → Rising past → Rising (r ∷ past)
 
 -- All that is kept of the past.
-pub record Kept (past : List Record) (p : Progress) (t : Tables) : Type 0 where
-  pub tick : p.tick ≡ last_tick past
-  pub start : p.start ≡ start_of past (last_tick past)
+pub record Kept (past : List Record) (t : Tables) : Type 0 where
+  pub tick : t.tick ≡ last_tick past
+  pub start : t.start ≡ start_of past (last_tick past)
   pub rising : Rising past
-  pub calls : p.operations ≡ operations past
-  pub clients : ClientsKept past p.clients t
-  pub added : AddedKept past p.added t.values t.chains
+  pub calls : t.operations ≡ operations past
+  pub clients : ClientsKept past t.clients
+  pub added : AddedKept past t.added
 
 -- This is known of the client of a record with an index.
-pub record Stands (r : Record) (index : ℕ) (p : Progress) (clients codes : List ℕ) (s : Standing) : Type 0 where
-  pub entry : Latest clients p.clients r.client s.entry
-  pub code : s.code ≡ get_or codes s.entry 0
-  pub start : s.start ≡ (if eqb r.tick p.tick then p.start else index)
+pub record Stands (r : Record) (index : ℕ) (t : Tables) (s : Standing) : Type 0 where
+  pub entry : Latest t.clients.map.keys t.clients.map.count r.client s.entry
+  pub code : s.code ≡ get_or t.clients.codes s.entry 0
+  pub start : s.start ≡ (if eqb r.tick t.tick then t.start else index)
 
 -- 6, 7, 31, 8 and 9, as the tables have it
-unfoldable pub fault_in : Record → Progress → Standing → List ℕ → ℕ
-fault_in r p s values =
-    if ltb r.tick p.tick then tick_fell else
-    event_fault r.event (s.code % 4) (ltb s.start (s.code / 4)) (take p.added values)
+unfoldable pub fault_in : Record → Tables → Standing → Result (Unit {0}) Refusal
+fault_in r t s =
+    if ltb r.tick t.tick then Err TickFell else
+    event_fault r.event (s.code % 4) (ltb s.start (s.code / 4)) (take t.added.count t.added.keys)
 
--- The code of a client is noted at an entry, which is in use or the first that is not. So many clients are then met.
-pub record Noted (client code entry count : ℕ) (clients codes : List ℕ) (met : ℕ) (clients' heads' links' codes' : List ℕ) : Type 0 where
-  pub linked : NarrowLinked clients' heads' links' met
-  pub codes_are : codes' ≡ set codes entry code
-  pub old : entry < count → (met ≡ count) × (clients' ≡ clients)
-  pub new : count ≤ entry → (met ≡ count + 1) × (clients' ≡ set clients count client)
+-- The code of a client is noted at an entry, which is in use or the first that is not.
+pub record Noted (client code entry : ℕ) (c c' : Clients) : Type 0 where
+  pub codes_are : c'.codes ≡ set c.codes entry code
+  pub old : entry < c.map.count → (c'.map.count ≡ c.map.count) × (c'.map.keys ≡ c.map.keys)
+  pub new : c.map.count ≤ entry → (c'.map.count ≡ c.map.count + 1) × (c'.map.keys ≡ set c.map.keys c.map.count client)
 
--- r is the lowest index, from an index on, of a pending remove that the first `count` codes have, or `none` if they have none below it.
-pub record LeastRemove (codes : List ℕ) (count from none r : ℕ) : Type 0 where
-  pub within : r ≤ none
-  pub least : (p : ℕ) → p < count → get_or codes p 0 % 4 ≡ remove_call → from < get_or codes p 0 / 4 → r < get_or codes p 0 / 4
-  pub there : r < none → (from ≤ r) × ((p : ℕ) × (p < count) × (get_or codes p 0 ≡ (r + 1) * 4 + remove_call))
+-- The value that an event adds, if it is a call of add, is put into the map.
+abbrev pub ValueNoted : Event → Map → Map → Type 0
+ValueNoted (CallAdd v) m m' = (m'.keys ≡ set m.keys m.count v) × (m'.count ≡ m.count + 1)
+ValueNoted CallRemove m m' = (m'.keys ≡ m.keys) × (m'.count ≡ m.count)
+ValueNoted ReturnAdd m m' = (m'.keys ≡ m.keys) × (m'.count ≡ m.count)
+ValueNoted (ReturnRemove x) m m' = (m'.keys ≡ m.keys) × (m'.count ≡ m.count)
+
+-- The lowest index, from an index on, of a pending remove that the first `count` codes have, if they have one.
+abbrev pub LeastRemove : List ℕ → ℕ → ℕ → Option ℕ → Type 0
+LeastRemove codes count from (Some r) =
+    (from ≤ r) × ((p : ℕ) × (p < count) × (get_or codes p 0 ≡ (r + 1) * 4 + remove_call))
+    × ((p : ℕ) → p < count → get_or codes p 0 % 4 ≡ remove_call → from < get_or codes p 0 / 4 → r < get_or codes p 0 / 4)
+LeastRemove codes count from None = (p : ℕ) → p < count → get_or codes p 0 % 4 ≡ remove_call → from < get_or codes p 0 / 4 → ⊥
 
 -- The tables hold what they held and the record r, the next one to read stands at `next`.
-pub record Admitted (r : Record) (next index : ℕ) (p : Progress) (t : Tables) (q : Progress) (t' : Tables) : Type 0 where
-  pub at : q.at ≡ next
-  pub kept : (past : List Record) → Kept past p t → length past ≡ index → fault past r ≡ 0 → Kept (r ∷ past) q t'
+pub record Admitted (r : Record) (next index : ℕ) (t t' : Tables) : Type 0 where
+  pub at : t'.at ≡ next
+  pub kept : (past : List Record) → Kept past t → length past ≡ index → fault past r ≡ Ok tt → Kept (r ∷ past) t'
 
 -- A step of the scan: it ends there with a refusal, or the tables hold one record more.
-abbrev pub Goes : List ℕ → List Record → ℕ → Tables → Step → Type 0
-Goes log past at t (Stop number) = (left : ℕ) → scan log (suc left) at past ≡ refused number (length past)
-Goes log past at t (Next q) =
-    (r : Record) × Kept (r ∷ past) q t × ((left : ℕ) → scan log (suc left) at past ≡ scan log left q.at (r ∷ past))
+abbrev pub Goes : List ℕ → List Record → ℕ → Result (Unit {0}) Refusal → Tables → Type 0
+Goes log past at (Err refusal) t' = (left : ℕ) → scan log (suc left) at past ≡ refused refusal (length past)
+Goes log past at (Ok _) t' =
+    (r : Record) × Kept (r ∷ past) t' × ((left : ℕ) → scan log (suc left) at past ≡ scan log left t'.at (r ∷ past))
 
-pub record Stepped (log : List ℕ) (index : ℕ) (p : Progress) (t : Tables) (s : Step) (t' : Tables) : Type 0 where
-  pub goes : (past : List Record) → Kept past p t → length past ≡ index → Goes log past p.at t' s
+pub record Stepped (log : List ℕ) (index : ℕ) (t : Tables) (step : Result (Unit {0}) Refusal) (t' : Tables) : Type 0 where
+  pub goes : (past : List Record) → Kept past t → length past ≡ index → Goes log past t.at step t'
 
 -- All records behind the header have been read, `count` of them: the tables hold them, and they are what the log is read as.
-pub record AllKept (log : List ℕ) (count : ℕ) (p : Progress) (t : Tables) : Type 0 where
+pub record AllKept (log : List ℕ) (count : ℕ) (t : Tables) : Type 0 where
   pub past : List Record
   pub counted : length past ≡ count
-  pub kept : Kept past p t
+  pub kept : Kept past t
   pub reads : scan log count header_length [] ≡ readable (reverse past)
 
 -- They have all been read, or the scan ends with this refusal.
-pub data Passed (log : List ℕ) (count : ℕ) : Pass → Tables → Type 0 where
-  through : {p : Progress} {t : Tables} → AllKept log count p t → Passed log count (Through p) t
-  stopped : {number index : ℕ} {t : Tables} → scan log count header_length [] ≡ refused number index → Passed log count (Stopped number index) t
+pub data Passed (log : List ℕ) (count : ℕ) : Result (Unit {0}) Refused → Tables → Type 0 where
+  through : {t : Tables} → AllKept log count t → Passed log count (Ok tt) t
+  stopped : {refusal : Refusal} {index : ℕ} {t : Tables} → scan log count header_length [] ≡ refused refusal index → Passed log count (refusing refusal index) t
 
--- This is wrong with bytes that are handed in as one record behind those that the tables hold.
-pub record FaultBehind (bytes : List ℕ) (index : ℕ) (p : Progress) (t : Tables) (number : ℕ) : Type 0 where
-  pub found : (past : List Record) → Kept past p t → length past ≡ index → number ≡ fault_behind past bytes
+-- This is what is wrong with bytes that are handed in as one record behind those that the tables hold.
+pub record FaultBehind (bytes : List ℕ) (index : ℕ) (t : Tables) (fault : Result (Unit {0}) Refusal) : Type 0 where
+  pub found : (past : List Record) → Kept past t → length past ≡ index → fault ≡ fault_behind past bytes
 
 -- what the header of a log says: "1 for under 3 bytes, 2, 3", or the number of records
-abbrev pub header_of : List ℕ → Header
+abbrev pub header_of : List ℕ → Result ℕ Refusal
 header_of log =
-    if ltb (length log) header_length then Wrong wrong_bytes else
-    if not (eqb (get_or log 0 0) log_version) then Wrong wrong_version else
-    if ltb max_records (count_field log) then Wrong too_many_records else
-    Count (count_field log)
+    if ltb (length log) header_length then Err WrongBytes else
+    if not (eqb (get_or log 0 0) log_version) then Err WrongVersion else
+    if ltb max_records (count_field log) then Err TooManyRecords else
+    Ok (count_field log)
 
--- the answer of the scan, with the index of the second pending remove
-abbrev pub surveyed : Reading → Survey
-surveyed (readable records) = Whole (length records) (operations records) (second_remove records)
-surveyed (refused number index) = Broken number index
+-- an index, if it is below a bound
+abbrev pub index_below : ℕ → ℕ → Option ℕ
+index_below bound i = if ltb i bound then Some i else None
+
+-- the answer of the scan, with the index of the second pending remove, if there is one
+abbrev pub surveyed : Reading → Result Survey Refused
+surveyed (readable records) = Ok (record { counts = record { records = length records; operations = operations records }; second_remove = index_below (length records) (second_remove records) })
+surveyed (refused refusal index) = refusing refusal index

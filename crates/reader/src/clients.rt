@@ -1,14 +1,10 @@
 // The clients met in a log that is being read: the keys of a map, with a code beside each. The code says where the client's latest record stands, and
 // what kind of call it leaves pending. specs/Tables.antt says what they hold.
 ghost use Rattle.std.specs.Prelude.{◌≡◌, ◌+◌, ◌-◌, ◌*◌, ◌/◌, ◌≤◌, ◌<◌};
-ghost use Rattle.map.specs.Map.{NarrowLinked};
-ghost use Rattle.table.specs.Table.{Fits};
 ghost use Rattle.reader.specs.Log.{max_records};
-ghost use Rattle.reader.specs.Tables.{Stands, Noted, Coded, LeastRemove};
+ghost use Rattle.reader.specs.Tables.{Noted, Coded, LeastRemove};
 
-use crate::scan::Progress;
-use map::narrow::{find_narrow, push_narrow};
-use record::record::Record;
+use map::narrow::NarrowMap;
 use table::table::Table;
 
 // The kinds of a call, and that of none.
@@ -27,35 +23,11 @@ pub struct Standing {
     pub start: usize,
 }
 
-// Finds the client of the record with an index.
-pub(crate) fn standing_of(
-    r: Record,
-    index: usize,
-    p: Progress,
-    clients: &Table,
-    heads: &Table,
-    links: &Table,
-    codes: &Table,
-) -> Standing
-    requires { (p.clients < max_records) × NarrowLinked clients.now heads.now links.now p.clients }
-    ensures { Stands r index p clients.now codes.now result }
-{
-    let client = r.client;
-    let count = p.clients;
-    let entry = find_narrow(clients, heads, links, count, client);
-    let code = codes[entry];
-    if r.tick == p.tick {
-        return Standing {
-            entry,
-            code,
-            start: p.start,
-        };
-    }
-    Standing {
-        entry,
-        code,
-        start: index,
-    }
+// A code is packed into 16 bits, as the reader has to stay under 16 KiB of stack.
+#[derive(Drop)]
+pub struct Clients {
+    pub map: NarrowMap,
+    pub codes: Table,
 }
 
 // The code of a client whose latest record has this index, and leaves a call of this kind pending.
@@ -74,46 +46,32 @@ fn index_of(code: u16) -> usize
     code as usize / 4 - 1
 }
 
-// Notes the code of a client, whose entry is known, and answers how many clients have been met.
-pub(crate) fn note_client(
-    client: u16,
-    code: u16,
-    entry: usize,
-    count: usize,
-    clients: &mut Table,
-    heads: &mut Table,
-    links: &mut Table,
-    codes: &mut Table,
-) -> usize
-    requires { (entry < max_records) × (count < max_records) × NarrowLinked clients.old heads.old links.old count }
-    ensures { Noted client code entry count clients.old codes.old result clients.new heads.new links.new codes.new }
-{
-    codes[entry] = code;
-    if entry < count {
-        return count;
+impl Clients {
+    // Notes the code of a client, whose entry is known.
+    pub(crate) fn note(&mut self, client: u16, code: u16, entry: usize)
+        requires { (entry < max_records) × (self.old.map.count < max_records) }
+        ensures { Noted client code entry self.old self.new }
+    {
+        self.codes[entry] = code;
+        if self.map.count <= entry {
+            self.map.push(client);
+        }
     }
-    push_narrow(clients, heads, links, count, client);
-    count + 1
-}
 
-// The index of the earliest remove that is pending and was called at index `from` or later, `none` where there is none.
-pub(crate) fn earliest_remove(codes: &Table, count: usize, from: usize, none: usize) -> usize
-    requires { Fits count codes.now × Coded count codes.now }
-    ensures { LeastRemove codes.now count from none result }
-{
-    let mut least = none;
-    let mut i = 0;
-    while i < count {
-        let code = codes[i];
-        if code % 4 == REMOVE_CALL {
-            let index = index_of(code);
-            if from <= index {
-                if index < least {
-                    least = index;
+    // The index of the earliest remove that is pending and was called at index `from` or later.
+    pub(crate) fn earliest_remove(&self, from: usize) -> Option<usize>
+        requires { Coded self.now.map.count self.now.codes }
+        ensures { LeastRemove self.now.codes self.now.map.count from result }
+    {
+        let mut least = None;
+        for &code in &self.codes[..self.map.count] {
+            if code % 4 == REMOVE_CALL {
+                let index = index_of(code);
+                if from <= index {
+                    least = Some(least.unwrap_or(index).min(index));
                 }
             }
         }
-        i += 1;
+        least
     }
-    least
 }

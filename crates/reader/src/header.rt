@@ -8,30 +8,23 @@ ghost use Rattle.reader.specs.Tables.{header_of};
 use crate::format::{HEADER, MAX_RECORDS, VERSION};
 use buffer::buffer::put16;
 use record::number::be16;
-use record::refusal::{TOO_MANY_RECORDS, WRONG_BYTES, WRONG_VERSION};
+use record::refusal::Refusal;
 
-// What the header of a log says: the number of records, or the number of a refusal.
-#[derive(Drop)]
-pub enum Header {
-    Count(usize),
-    Wrong(u32),
-}
-
-// Reads the header.
-pub(crate) fn read_header(log: &[u8]) -> Header
+// Reads the header: the number of records.
+pub(crate) fn read_header(log: &[u8]) -> Result<usize, Refusal>
     ensures { result ≡ header_of log.now }
 {
     if log.len() < HEADER {
-        return Header::Wrong(WRONG_BYTES);
+        return Err(Refusal::WrongBytes);
     }
     if log[0] != VERSION {
-        return Header::Wrong(WRONG_VERSION);
+        return Err(Refusal::WrongVersion);
     }
     let count = be16(log, 1) as usize;
     if MAX_RECORDS < count {
-        return Header::Wrong(TOO_MANY_RECORDS);
+        return Err(Refusal::TooManyRecords);
     }
-    Header::Count(count)
+    Ok(count)
 }
 
 // Writes the number of records into the header of a log.

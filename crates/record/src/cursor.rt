@@ -4,7 +4,8 @@ ghost use Rattle.std.specs.Prelude.{◌≡◌};
 ghost use Rattle.record.specs.Frame.{frame_at};
 ghost use Rattle.record.specs.Cursor.{behind};
 
-use crate::frame::{Frame, frame_at};
+use crate::frame::frame_at;
+use crate::refusal::Refusal;
 
 #[derive(Drop)]
 pub struct Reader<'a> {
@@ -15,7 +16,7 @@ pub struct Reader<'a> {
 // What stands at an offset, and how far a reader that was there has then come.
 #[derive(Drop)]
 pub struct Advance {
-    pub frame: Frame,
+    pub frame: Result<usize, Refusal>,
     pub at: usize,
 }
 
@@ -24,12 +25,12 @@ fn step_at(log: &[u8], at: usize) -> Advance
     ensures { (result.frame ≡ frame_at log.now at) × (result.at ≡ behind (frame_at log.now at) at) }
 {
     match frame_at(log, at) {
-        Frame::Framed(next) => Advance {
-            frame: Frame::Framed(next),
+        Ok(next) => Advance {
+            frame: Ok(next),
             at: next,
         },
-        Frame::Cut(number) => Advance {
-            frame: Frame::Cut(number),
+        Err(refusal) => Advance {
+            frame: Err(refusal),
             at,
         },
     }
@@ -43,7 +44,7 @@ pub(crate) fn reader_at<'a>(log: &'a [u8], at: usize) -> Reader<'a>
 }
 
 // The frame where the reader is, with the reader moved past it. A refusal leaves the reader where it was.
-pub(crate) fn next<'s, 'a>(r: &'s mut Reader<'a>) -> Frame
+pub(crate) fn next<'s, 'a>(r: &'s mut Reader<'a>) -> Result<usize, Refusal>
     ensures { (result ≡ frame_at r.old.log.now r.old.at)
         × (r.new.log ≡ r.old.log)
         × (r.new.at ≡ behind result r.old.at) }
@@ -54,7 +55,7 @@ pub(crate) fn next<'s, 'a>(r: &'s mut Reader<'a>) -> Frame
 }
 
 // The frame at an offset, for callers with a plain slice and a number.
-pub fn read_frame(log: &[u8], at: usize) -> Frame
+pub fn read_frame(log: &[u8], at: usize) -> Result<usize, Refusal>
     ensures { result ≡ frame_at log.now at }
 {
     let mut r = reader_at(log, at);

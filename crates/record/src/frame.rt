@@ -3,29 +3,22 @@
 ghost use Rattle.std.specs.Prelude.{◌≡◌};
 ghost use Rattle.record.specs.Frame.{frame_at};
 
-use crate::refusal::{WRONG_BYTES, WRONG_LENGTH};
+use crate::refusal::Refusal;
 
-// What stands at a position, whatever its kind: all bytes of a record, up to where the next one starts, or the number of a refusal.
-#[derive(Drop)]
-pub enum Frame {
-    Framed(usize),
-    Cut(u32),
-}
-
-// The frame at a position of a log.
-pub(crate) fn frame_at(log: &[u8], at: usize) -> Frame
+// What stands at a position of a log, whatever its kind: all bytes of a record, up to where the next one starts, or a refusal.
+pub(crate) fn frame_at(log: &[u8], at: usize) -> Result<usize, Refusal>
     ensures { result ≡ frame_at log.now at }
 {
     if log.len() <= at {
-        return Frame::Cut(WRONG_BYTES);
+        return Err(Refusal::WrongBytes);
     }
     let start = at + 1;
     let length = log[at];
     if log.len() - start < length as usize {
-        return Frame::Cut(WRONG_BYTES);
+        return Err(Refusal::WrongBytes);
     }
     if length == 0 {
-        return Frame::Cut(WRONG_LENGTH);
+        return Err(Refusal::WrongLength);
     }
-    Frame::Framed(start + length as usize)
+    Ok(start + length as usize)
 }

@@ -15,31 +15,24 @@ use history::operations::{
 };
 use history::sheet::{listed_on, operation_at};
 use reader::format::MAX_RECORDS;
-use table::number::max;
 
-// How far an order has been run: the latest call among the operations placed, and where the queue's front and back are.
-#[derive(Clone, Copy)]
+// How far an order has been run: the latest call among the operations placed, and where the queue's front and back are. At the
+// start all are 0.
+#[derive(Clone, Copy, Default)]
 pub struct Progress {
     pub latest: u32,
     pub head: usize,
     pub tail: usize,
 }
 
-// What placing an operation comes to.
-#[derive(Drop)]
-pub enum Step {
-    Placed(Progress),
-    Illegal,
-}
-
-// For each operation 1 if it is placed, or 0.
-type Marks = [u8; MAX_RECORDS];
+// For each operation whether it is placed.
+type Marks = [bool; MAX_RECORDS];
 
 // The values that were put in, of which those from `head` up to `tail` wait.
 type Queue = [u32; MAX_RECORDS];
 
-// Runs an operation of this kind and value on the queue.
-fn serve(kind: u32, value: u32, p: Progress, queue: &mut Queue) -> Step
+// Runs an operation of this kind and value on the queue, or answers none if it cannot be run.
+fn serve(kind: u32, value: u32, p: Progress, queue: &mut Queue) -> Option<Progress>
     requires { (p.head ≤ p.tail) × (p.tail < max_records) × (length queue.old ≡ max_records) }
     ensures { Serves kind value p queue.old result queue.new }
 {
@@ -48,49 +41,43 @@ fn serve(kind: u32, value: u32, p: Progress, queue: &mut Queue) -> Step
     match kind {
         ADD => {
             queue[tail] = value;
-            Step::Placed(Progress {
-                latest: p.latest,
-                head,
+            Some(Progress {
                 tail: tail + 1,
+                ..p
             })
         }
         REMOVE => {
             if head == tail {
-                return Step::Illegal;
+                return None;
             }
             let front = queue[head];
             if front != value {
-                return Step::Illegal;
+                return None;
             }
-            Step::Placed(Progress {
-                latest: p.latest,
+            Some(Progress {
                 head: head + 1,
-                tail,
+                ..p
             })
         }
         EMPTY_REMOVE => {
             if head != tail {
-                return Step::Illegal;
+                return None;
             }
-            Step::Placed(p)
+            Some(p)
         }
         // A remove that has not returned takes the front value if there is one and otherwise changes nothing.
         NO_KIND => {
             if head == tail {
-                return Step::Placed(p);
+                return Some(p);
             }
             let next = head + 1;
-            Step::Placed(Progress {
-                latest: p.latest,
-                head: next,
-                tail,
-            })
+            Some(Progress { head: next, ..p })
         }
-        _ => Step::Illegal,
+        _ => None,
     }
 }
 
-// Places an operation behind those that are marked.
+// Places an operation behind those that are marked, or answers none if no legal order has it there.
 fn place(
     table: &Operations,
     count: usize,
@@ -98,28 +85,27 @@ fn place(
     p: Progress,
     marks: &mut Marks,
     queue: &mut Queue,
-) -> Step
+) -> Option<Progress>
     requires { Room count p marks.old queue.old }
     ensures { StepsIn count table.now o p marks.old queue.old result marks.new queue.new }
 {
     // There is no such operation.
     if count <= o {
-        return Step::Illegal;
+        return None;
     }
     // It was placed before.
-    if marks[o] == 1 {
-        return Step::Illegal;
+    if marks[o] {
+        return None;
     }
     // It precedes one that was placed.
     let latest = p.latest;
     if return_of(table, o) < latest {
-        return Step::Illegal;
+        return None;
     }
-    marks[o] = 1;
+    marks[o] = true;
     let q = Progress {
-        latest: max(latest, call_of(table, o)),
-        head: p.head,
-        tail: p.tail,
+        latest: latest.max(call_of(table, o)),
+        ..p
     };
     serve(kind_of(table, o), value_of(table, o), q, queue)
 }
@@ -131,24 +117,13 @@ fn place_all(table: &Operations, count: usize, sheet: &[u8], marks: &mut Marks) 
     ensures { TriedIn count table.now (listed_on sheet.now) marks.new result }
 {
     let mut queue = [0u32; MAX_RECORDS];
-    let mut p = Progress {
-        latest: 0,
-        head: 0,
-        tail: 0,
-    };
-    let k = listed_on(sheet);
-    let mut i = 0;
-    while i < k {
+    let mut p = Progress::default();
+    for i in 0..listed_on(sheet) {
         let o = operation_at(sheet, i);
-        match place(table, count, o, p, marks, &mut queue) {
-            Step::Illegal => {
-                return false;
-            }
-            Step::Placed(q) => {
-                p = q;
-            }
-        }
-        i += 1;
+        let Some(q) = place(table, count, o, p, marks, &mut queue) else {
+            return false;
+        };
+        p = q;
     }
     true
 }
@@ -158,13 +133,7 @@ fn marked_if_returned(table: &Operations, end: usize, o: usize, marks: &Marks) -
     requires { (end ≤ max_positions) × (o < max_records) }
     ensures { Decides (ReturnIsMarked end table.now marks.now o) result }
 {
-    if end as u32 <= return_of(table, o) {
-        return true;
-    }
-    if marks[o] != 1 {
-        return false;
-    }
-    true
+    end as u32 <= return_of(table, o) || marks[o]
 }
 
 // Whether every returned operation is marked.
@@ -172,12 +141,10 @@ fn all_marked(table: &Operations, count: usize, end: usize, marks: &Marks) -> bo
     requires { (count ≤ max_records) × (end ≤ max_positions) }
     ensures { Decides (AllMarked (tabled count end table.now) marks.now) result }
 {
-    let mut o = 0;
-    while o < count {
+    for o in 0..count {
         if !marked_if_returned(table, end, o, marks) {
             return false;
         }
-        o += 1;
     }
     true
 }
@@ -187,7 +154,7 @@ pub(crate) fn is_linearization(table: &Operations, count: usize, end: usize, she
     requires { (count ≤ max_records) × (end ≤ max_positions) × (is_order_sheet sheet.now ≡ true) }
     ensures { Decides (Linearization Queue (tabled count end table.now) (listed_on sheet.now)) result }
 {
-    let mut marks = [0u8; MAX_RECORDS];
+    let mut marks = [false; MAX_RECORDS];
     if !place_all(table, count, sheet, &mut marks) {
         return false;
     }

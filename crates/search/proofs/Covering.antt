@@ -1,7 +1,7 @@
 -- The gaps that values cover.
 use Prim.Native.Nat.{ℕ, ◌+◌, ◌-◌, ◌≤◌, ◌<◌}
 use native.Mathlib.Omega.{arith}
-use mathlib.Core.Path.{◌≡◌, refl, ◌∙◌}
+use mathlib.Core.Path.{◌≡◌, ◌∙◌}
 use mathlib.Core.Logic.{◌⊎◌, inl, inr}
 use mathlib.Core.List.{List}
 use lib.ListN.{length, get_or, set, length-set}
@@ -11,7 +11,7 @@ use Rattle.history.specs.History.{History}
 use Rattle.history.proofs.Basics.{up_to}
 use Rattle.matching.specs.Returns.{NotedAt, ReturnsNoted}
 use Rattle.matching.proofs.Numbers.{Larger}
-use Rattle.matching.proofs.Returning.{Highest, highest_starts, highest_more}
+use Rattle.matching.proofs.Returning.{Highest, highest_more}
 use Rattle.matching.proofs.Storing.{entry_stored}
 use Rattle.search.specs.Gaps.{CoversIn, LastUncovered, Swept}
 
@@ -25,16 +25,6 @@ pub record Sweeping (h : History) (reach : List ℕ) (g furthest last : ℕ) (ga
   pub within : last ≤ g
   pub uncovered : 0 < last → (a : ℕ) → CoversIn h reach a (last - 1) → ⊥
   pub covered : (f : ℕ) → last ≤ f → f < g → (a : ℕ) × CoversIn h reach a f
-
--- before the first position
-sweeping_starts : (h : History) (reach gaps : List ℕ) → Sweeping h reach 0 0 0 gaps
-sweeping_starts h reach gaps = record {
-  lasts = λ f l. absurd (omega arith);
-  highest = highest_starts h reach;
-  within = omega arith;
-  uncovered = λ p. absurd (omega arith);
-  covered = λ f b l. absurd (omega arith);
-}
 
 -- one position more: x is how far a value reaches that is noted at g, and y how far one does that is noted up to there
 module _ {h : History} {reach : List ℕ} {g furthest last : ℕ} {gaps : List ℕ} (s : Sweeping h reach g furthest last gaps) (in_gaps : g < length gaps)
@@ -77,10 +67,6 @@ pub record SweptTo (end : ℕ) (gaps₀ gaps : List ℕ) (furthest last g : ℕ)
   -- the entries from g on are as they were
   pub rest : (f : ℕ) → g ≤ f → get_or gaps f 0 ≡ get_or gaps₀ f 0
   pub sweeping : (h : History) (reach : List ℕ) → h.end ≡ end → ReturnsNoted h reach h.count gaps₀ → Sweeping h reach g furthest last gaps
-
--- the sweep begins
-pub swept_none : (end : ℕ) {gaps : List ℕ} → length gaps ≡ max_positions → SweptTo end gaps gaps 0 0 0
-swept_none end {gaps} sized = record { below = omega arith; sized = sized; rest = λ f l. refl; sweeping = λ h reach e noted. sweeping_starts h reach gaps }
 
 module _ {end : ℕ} {gaps₀ gaps : List ℕ} {furthest last g : ℕ} (swept : SweptTo end gaps₀ gaps furthest last g) where
   -- it goes on by one position

@@ -1,26 +1,29 @@
 -- Which operations may be placed, as the code tests it, and as the theory of the search says.
 use Prim.Native.Nat.{ℕ, ◌+◌, ◌-◌, ◌≤◌, ◌<◌}
 use native.Mathlib.Omega.{arith}
-use native.Mathlib.Numerals.{add-one}
 use native.Mathlib.Decide.{dec_lt, ℕ_discrete}
 use mathlib.Core.Path.{◌≡◌, refl, sym, ap, ◌∙◌}
 use mathlib.Core.Logic.{◌⊎◌, inl, inr}
 use mathlib.Core.List.{List, [], ◌∷◌, ◌++◌}
+use lib.Dec.{ltb}
 use lib.ListN.{length, get_or}
-use lib.Seq.{slice, slice_empty, slice-cons, length-slice}
-use Rattle.history.specs.History.{History, add, remove, empty_remove, no_kind}
+use lib.Seq.{slice-cons, length-slice}
+use Rattle.std.proofs.lemmas.List.{nil_from_length}
+use Rattle.reader.specs.Log.{max_records}
+use Rattle.history.specs.Answers.{Decides}
+use Rattle.history.specs.History.{History, add, remove, empty_remove, no_kind, Returned}
 use Rattle.history.specs.Linearization.{Listed}
-use Rattle.violations.specs.Violations.{Is, Removed}
+use Rattle.violations.specs.Violations.{Is, Removed, Reaches, removed, never}
 use Rattle.violations.specs.Greedy.{Due, Left, Enabled, Placeable}
 use Rattle.violations.specs.Found.{Safe, Serves, enqueues, dequeues, meets_empty}
 use Rattle.violations.proofs.Operations.{removed?}
 use Rattle.violations.proofs.Greedy.{left?}
-use Rattle.violations.proofs.Lists.{listed_here}
 use Rattle.matching.specs.Held.{Held}
 use Rattle.matching.specs.Reaches.{reach_at, Reaching}
 use Rattle.matching.proofs.Reaching.{reach_within}
-use Rattle.search.specs.Bounds.{limit_at, Least}
-use Rattle.search.specs.Searching.{gap_at, HaveGaps, Limits, Waits, LeastOf, queue_in, Cap, Fit, adds, removes, empties, QueueRoom}
+use Rattle.matching.proofs.Tests.{decided_less}
+use Rattle.search.specs.Bounds.{limit_at, Least, BoundTable}
+use Rattle.search.specs.Searching.{gap_at, HaveGaps, Limits, Stands, LeastOf, order_in, waiting_in, queue_in, Cap, Fit, adds, removes, empties}
 use Rattle.search.specs.declared.search.Stand.{Stand}
 
 -- whether an operation of a lawful history is an add, a remove or an empty remove
@@ -46,73 +49,79 @@ limit_due held limits o known idle =
     (λ e. idle (record { known = known; kinded = omega arith; listed = inl (held.lawful.returned o known (omega arith)) }))
     (λ is out. idle (record { known = known; kinded = omega (arith, is.kinds); listed = inr out }))
 
--- The least limit of those that wait and of those that are not enabled yet is the least of all that is left.
-pub cap_is : {h : History} {limit order waiting : List ℕ} {next bound x : ℕ} → Held h → Limits h limit → Waits h order next waiting → ((o : ℕ) → Listed order o → o < next)
-    → Least h.count h.end limit next bound → LeastOf (limit_at limit) bound waiting x → Cap h limit order x
-cap_is {h} {limit} {order} {waiting} {next} {bound} {x} held limits waits below rest least = record { below = λ o left. under o left (dec_lt o next); met = met least.met }
+-- an operation that has not returned is to be listed if its value reaches less far than the end
+pub due_tested : {h : History} {reach : List ℕ} → Held h → Reaching h reach → (o : ℕ) → o < h.count → h.end ≤ h.ret o → Decides (Due h o) (ltb (reach_at reach o) h.end)
+due_tested {h} {reach} held reaching o known pending = decided_less (reach_at reach o) h.end (λ l. due l (kinds held o known)) (λ d. short d d.listed (kinds held o known))
   where
-    under : (o : ℕ) → Left h order o → Dec (o < next) → x ≤ limit_at limit o
-    under o left (yes l) = least.below o (waits.all o l left)
+    no_remove : add < h.kind o → ⊥
+    no_remove k = let back : Returned h o = held.lawful.returned o known k in omega arith
+
+    due : reach_at reach o < h.end → Kinds h o → Due h o
+    due l (is_add is) = by (reaching.reaches o is)
+      where
+        by : Reaches h o (reach_at reach o) → Due h o
+        by (removed r out e) = record { known = known; kinded = omega (arith, is.kinds); listed = inr (r, out) }
+        by (never n e) = absurd (omega arith)
+    due l (is_remove is) = absurd (no_remove (omega (arith, is.kinds)))
+    due l (is_empty is) = absurd (no_remove (omega (arith, is.kinds)))
+    due l (is_none is) = absurd (omega (arith, reaching.idle o is))
+
+    short : Due h o → Returned h o ⊎ Removed h o → Kinds h o → reach_at reach o < h.end
+    short d (inl back) k = absurd (omega arith)
+    short d (inr out) (is_add is) = by (reaching.reaches o is)
+      where
+        by : Reaches h o (reach_at reach o) → reach_at reach o < h.end
+        by (removed r out' e) = let there : r < h.count = out'.removes.known in omega (arith, held.lawful.spans r there, held.lawful.ends r there)
+        by (never n e) = absurd (n out)
+    short d (inr out) (is_remove is) = absurd (no_remove (omega (arith, is.kinds)))
+    short d (inr out) (is_empty is) = absurd (no_remove (omega (arith, is.kinds)))
+    short d (inr out) (is_none is) = absurd (omega (arith, d.kinded, is.kinds))
+
+-- The least limit of those that wait and of those that are not enabled yet is the least of all that is left.
+pub cap_is : {h : History} {reach limit bound : List ℕ} {s : Stand} {waiting queue list : List ℕ} {x : ℕ} → Held h → Limits h limit → BoundTable h.count h.end limit 0 bound
+    → Stands h reach limit s waiting queue list → LeastOf (limit_at limit) (get_or bound s.next 0) (waiting_in s waiting) x → Cap h limit (order_in s list) x
+cap_is {h} {reach} {limit} {bound} {s} {waiting} {queue} {list} {x} held limits bounds stands least = record { below = λ o left. under o left (dec_lt o s.next); met = met least.met }
+  where
+    rest : Least h.count h.end limit s.next (get_or bound s.next 0)
+    rest = bounds.least s.next (omega arith) stands.next_within
+
+    under : (o : ℕ) → Left h (order_in s list) o → Dec (o < s.next) → x ≤ limit_at limit o
+    under o left (yes l) = least.below o (stands.waits.all o l left)
     under o left (no l) = omega (arith, least.within, rest.below o (omega arith) left.due.known)
 
-    behind : (o : ℕ) → next ≤ o → o < h.count → limit_at limit o ≡ x → Dec (Left h order o) → (x ≡ h.end + 1) ⊎ ((p : ℕ) × Left h order p × (limit_at limit p ≡ x))
+    behind : (o : ℕ) → s.next ≤ o → o < h.count → limit_at limit o ≡ x → Dec (Left h (order_in s list) o) → (x ≡ h.end + 1) ⊎ ((p : ℕ) × Left h (order_in s list) p × (limit_at limit p ≡ x))
     behind o l known e (yes left) = inr (o, left, e)
-    behind o l known e (no n) = inl (sym e ∙ limit_due held limits o known (λ due. n (record { due = due; unplaced = λ at. omega (arith, below o at) })))
+    behind o l known e (no n) = inl (sym e ∙ limit_due held limits o known (λ due. n (record { due = due; unplaced = λ at. omega (arith, stands.placed_below o at) })))
 
-    last : x ≡ bound → (bound ≡ h.end + 1) ⊎ ((o : ℕ) × (next ≤ o) × (o < h.count) × (limit_at limit o ≡ bound)) → (x ≡ h.end + 1) ⊎ ((p : ℕ) × Left h order p × (limit_at limit p ≡ x))
+    last : x ≡ get_or bound s.next 0 → (get_or bound s.next 0 ≡ h.end + 1) ⊎ ((o : ℕ) × (s.next ≤ o) × (o < h.count) × (limit_at limit o ≡ get_or bound s.next 0))
+        → (x ≡ h.end + 1) ⊎ ((p : ℕ) × Left h (order_in s list) p × (limit_at limit p ≡ x))
     last e (inl b) = inl (e ∙ b)
-    last e (inr (o, l, known, b)) = behind o l known (b ∙ sym e) (left? h order o)
+    last e (inr (o, l, known, b)) = behind o l known (b ∙ sym e) (left? h (order_in s list) o)
 
-    met : (x ≡ bound) ⊎ ((o : ℕ) × Listed waiting o × (limit_at limit o ≡ x)) → (x ≡ h.end + 1) ⊎ ((p : ℕ) × Left h order p × (limit_at limit p ≡ x))
+    met : (x ≡ get_or bound s.next 0) ⊎ ((o : ℕ) × Listed (waiting_in s waiting) o × (limit_at limit o ≡ x)) → (x ≡ h.end + 1) ⊎ ((p : ℕ) × Left h (order_in s list) p × (limit_at limit p ≡ x))
     met (inl e) = last e rest.met
-    met (inr (o, at, e)) = inr (o, (waits.are o at).1, e)
+    met (inr (o, at, e)) = inr (o, (stands.waits.are o at).1, e)
+
+-- The queue lies inside its table and holds operations.
+pub record QueueRoom (h : History) (s : Stand) (queue : List ℕ) : Type 0 where
+  pub sized : length queue ≡ max_records
+  pub head_within : s.head ≤ s.tail
+  pub tail_within : s.tail ≤ max_records
+  pub known : (o : ℕ) → Listed (queue_in s queue) o → o < h.count
 
 module _ {h : History} {s : Stand} {queue : List ℕ} (room : QueueRoom h s queue) where
   -- the front of a queue that is not empty
-  front : s.head < s.tail → queue_in s queue ≡ get_or queue s.head 0 ∷ slice (s.head + 1) s.tail queue
-  front l = rw add-one (slice-cons s.head s.tail queue 0 l (omega (arith, room.sized, room.tail_within)))
+  front : s.head < s.tail → get_or (queue_in s queue) 0 0 ≡ get_or queue s.head 0
+  front l = ap (λ l. get_or l 0 0) (slice-cons s.head s.tail queue 0 l (omega (arith, room.sized, room.tail_within)))
 
-  queue_long : length (queue_in s queue) ≡ s.tail - s.head
+  pub queue_long : length (queue_in s queue) ≡ s.tail - s.head
   queue_long = length-slice s.head s.tail queue (omega (arith, room.sized, room.tail_within))
 
-  -- it is an operation
-  pub front_known : s.head < s.tail → get_or queue s.head 0 < h.count
-  front_known l = room.known (get_or queue s.head 0) (rw (front l) (listed_here (get_or queue s.head 0) (slice (s.head + 1) s.tail queue)))
-
--- what the test asks of each kind
-module _ {h : History} {reach queue : List ℕ} {s : Stand} {cap o : ℕ} (fit : Fit h reach queue s cap o) where
-  pub fit_add : h.kind o ≡ add → reach_at reach o < cap
-  fit_add k = go fit
-    where
-      go : Fit h reach queue s cap o → reach_at reach o < cap
-      go (adds e l) = l
-      go (removes e l f) = absurd (omega arith)
-      go (empties e f) = absurd (omega arith)
-
-  pub fit_remove : h.kind o ≡ remove → (s.head < s.tail) × (h.value (get_or queue s.head 0) ≡ h.value o)
-  fit_remove k = go fit
-    where
-      go : Fit h reach queue s cap o → (s.head < s.tail) × (h.value (get_or queue s.head 0) ≡ h.value o)
-      go (adds e l) = absurd (omega arith)
-      go (removes e l f) = (l, f)
-      go (empties e f) = absurd (omega arith)
-
-  pub fit_empty : h.kind o ≡ empty_remove → s.head ≡ s.tail
-  fit_empty k = go fit
-    where
-      go : Fit h reach queue s cap o → s.head ≡ s.tail
-      go (adds e l) = absurd (omega arith)
-      go (removes e l f) = absurd (omega arith)
-      go (empties e f) = f
-
-  -- what may be placed is of a kind
-  pub fit_some : (add ≤ h.kind o) × (h.kind o ≤ empty_remove)
-  fit_some = go fit
-    where
-      go : Fit h reach queue s cap o → (add ≤ h.kind o) × (h.kind o ≤ empty_remove)
-      go (adds e l) = omega arith
-      go (removes e l f) = omega arith
-      go (empties e f) = omega arith
+-- what the test asks of a remove
+pub fit_remove : {h : History} {reach queue : List ℕ} {cap o : ℕ} → Fit h reach queue cap o → h.kind o ≡ remove → 0 < length queue
+fit_remove (adds e l) k = absurd (omega arith)
+fit_remove (removes e l f) k = l
+fit_remove (empties e f) k = absurd (omega arith)
 
 module _ {h : History} (reach limit order : List ℕ) (cap : ℕ) (limits : Limits h limit) (capped : Cap h limit order cap) where
   -- an add that reaches less far than all limits is safe
@@ -143,31 +152,28 @@ module _ {h : History} (reach limit order : List ℕ) (cap : ℕ) (limits : Limi
       go (inl e) = omega (arith, within)
       go (inr (o, left, e)) = by_kind o left e (kinds held o left.due.known)
 
-  module _ {s : Stand} {queue : List ℕ} (room : QueueRoom h s queue) where
-    -- what the placeable operation makes of the queue, by what the code tests of it
-    pub fit_places : {o : ℕ} → Enabled h order o → Fit h reach queue s cap o → (queue' : List ℕ) → (h.kind o ≡ add → queue' ≡ queue_in s queue ++ (o ∷ []))
-        → (h.kind o ≡ remove → s.head < s.tail → queue_in s queue ≡ get_or queue s.head 0 ∷ queue') → (h.kind o ≡ empty_remove → queue' ≡ queue_in s queue)
-        → Placeable h (Serves h (reach_at reach) (gap_at limit)) order (queue_in s queue) o queue'
-    fit_places enabled (adds k l) queue' added removed' empty = record { enabled = enabled; serves = rw (added k) (enqueues k (below_safe l)) }
-    fit_places enabled (removes k l e) queue' added removed' empty = record {
-      enabled = enabled;
-      serves = rw (removed' k l) (dequeues (record { removes = record { known = enabled.left.due.known; kinds = k }; same = sym e }));
-    }
-    fit_places enabled (empties k e) queue' added removed' empty =
-        let none : queue_in s queue ≡ [] = rw (e, slice_empty s.tail queue) refl in
-        record { enabled = enabled; serves = rw (empty k, none) (meets_empty k) }
+  -- what the placeable operation makes of the queue, by what the code tests of it
+  pub fit_places : {s : Stand} {queue : List ℕ} → QueueRoom h s queue → {o : ℕ} → Enabled h order o → Fit h reach (queue_in s queue) cap o → (queue' : List ℕ)
+      → (h.kind o ≡ add → queue' ≡ queue_in s queue ++ (o ∷ []))
+      → (h.kind o ≡ remove → s.head < s.tail → queue_in s queue ≡ get_or queue s.head 0 ∷ queue') → (h.kind o ≡ empty_remove → queue' ≡ queue_in s queue)
+      → Placeable h (Serves h (reach_at reach) (gap_at limit)) order (queue_in s queue) o queue'
+  fit_places room enabled (adds k l) queue' added removed' empty = record { enabled = enabled; serves = rw (added k) (enqueues k (below_safe l)) }
+  fit_places {s} {queue} room enabled (removes k l e) queue' added removed' empty =
+      let some : s.head < s.tail = omega (arith, queue_long room) in
+      record {
+        enabled = enabled;
+        serves = rw (removed' k some) (dequeues (record { removes = record { known = enabled.left.due.known; kinds = k }; same = sym e ∙ ap h.value (front room some) }));
+      }
+  fit_places {s} {queue} room enabled (empties k e) queue' added removed' empty =
+      let none : queue_in s queue ≡ [] = nil_from_length (queue_in s queue) e in
+      record { enabled = enabled; serves = rw (empty k, none) (meets_empty k) }
 
-    -- a placeable operation passes the code's test
-    pub placeable_fits : Held h → Reaching h reach → HaveGaps h limit
-        → {o : ℕ} {queue' : List ℕ} → Placeable h (Serves h (reach_at reach) (gap_at limit)) order (queue_in s queue) o queue' → Fit h reach queue s cap o
-    placeable_fits held reaching gaps {o} {queue'} p = go (queue_in s queue) refl p.serves
-      where
-        nonempty : {a : ℕ} {rest : List ℕ} → queue_in s queue ≡ a ∷ rest → s.head < s.tail
-        nonempty e = omega (arith, queue_long room, ap length e)
-
-        go : (held-queue : List ℕ) → queue_in s queue ≡ held-queue → {q : List ℕ} → Serves h (reach_at reach) (gap_at limit) order o held-queue q → Fit h reach queue s cap o
-        go held-queue same (enqueues k safe) = adds k (safe_below held reaching gaps (record { known = p.enabled.left.due.known; kinds = k }) safe)
-        go (a ∷ rest) same (dequeues out) =
-            let first : get_or queue s.head 0 ≡ a = ap (λ l. get_or l 0 0) (sym (front room (nonempty same)) ∙ same) in
-            removes out.removes.kinds (nonempty same) (ap h.value first ∙ sym out.same)
-        go [] same (meets_empty k) = empties k (omega (arith, queue_long room, ap length same, room.head_within))
+  -- a placeable operation passes the code's test
+  pub placeable_fits : Held h → Reaching h reach → HaveGaps h limit → {o : ℕ} {queue queue' : List ℕ}
+      → Placeable h (Serves h (reach_at reach) (gap_at limit)) order queue o queue' → Fit h reach queue cap o
+  placeable_fits held reaching gaps {o} {queue} {queue'} p = go p.serves
+    where
+      go : {q q' : List ℕ} → Serves h (reach_at reach) (gap_at limit) order o q q' → Fit h reach q cap o
+      go (enqueues k safe) = adds k (safe_below held reaching gaps (record { known = p.enabled.left.due.known; kinds = k }) safe)
+      go (dequeues out) = removes out.removes.kinds (omega arith) (sym out.same)
+      go (meets_empty k) = empties k refl

@@ -1,12 +1,10 @@
 pub mod Admitting
 pub mod Covering
-pub mod Due
 pub mod Fitting
 pub mod LastGaps
 pub mod Least
 pub mod Limiting
 pub mod Ordering
-pub mod Queueing
 pub mod Removing
 pub mod Standing
 pub mod Waiting

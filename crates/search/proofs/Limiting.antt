@@ -3,10 +3,9 @@ use Prim.Native.Nat.{ℕ, ◌+◌, ◌-◌, ◌≤◌, ◌<◌}
 use native.Mathlib.Omega.{arith}
 use mathlib.Core.Path.{◌≡◌}
 use mathlib.Core.List.{List}
-use lib.ListN.{length, get_or, set, length-set}
-use lib.Seq.{get_or-set_same}
+use lib.ListN.{get_or, set, length-set}
 use Rattle.reader.specs.Log.{max_records}
-use Rattle.matching.proofs.Numbers.{Smaller, least_starts, least_back}
+use Rattle.matching.proofs.Numbers.{Smaller, least_back}
 use Rattle.matching.proofs.Storing.{entry_stored, filled_more}
 use Rattle.search.specs.Bounds.{limit_by, limit_at, LimitTable, Least, BoundTable}
 
@@ -14,13 +13,6 @@ use Rattle.search.specs.Bounds.{limit_by, limit_at, LimitTable, Least, BoundTabl
 pub limits_more : {n end : ℕ} {table partner gaps limit : List ℕ} → LimitTable n end table partner gaps limit → {x : ℕ} → n < max_records → x ≡ limit_by table end partner gaps n
     → LimitTable (n + 1) end table partner gaps (set limit n x)
 limits_more {limit = limit} t l e = record { sized = simp length-set t.sized; limits = filled_more limit (omega (arith, t.sized)) t.limits e }
-
--- behind the last operation there is no limit
-pub bounds_none : (count end : ℕ) (limit bound : List ℕ) → count ≤ max_records → length bound ≡ max_records + 1 → BoundTable count end limit count (set bound count (end + 1))
-bounds_none count end limit bound few sized = record {
-  sized = simp length-set sized;
-  least = λ o l m. let e : o ≡ count = omega arith in rw (e, get_or-set_same bound count (end + 1) 0 (omega arith)) least_starts;
-}
 
 -- one bound more
 pub bounds_more : {count end : ℕ} {limit : List ℕ} {n : ℕ} {bound : List ℕ} {x : ℕ} → count ≤ max_records → BoundTable count end limit n bound → 0 < n → n ≤ count

@@ -4,6 +4,7 @@ use mathlib.Core.Path.{◌≡◌}
 use mathlib.Core.Logic.{inl, inr}
 use mathlib.Core.List.{List, ◌∷◌}
 use lib.ListN.{take}
+use Rattle.std.specs.Prelude.{Option, Some, None}
 use Rattle.history.specs.Object.{Queue}
 use Rattle.history.specs.History.{add, empty_remove}
 use Rattle.history.specs.Table.{tabled}
@@ -19,8 +20,6 @@ use Rattle.search.specs.Gaps.{Uncovered}
 use Rattle.search.specs.Bounds.{limit_at, LimitTable}
 use Rattle.search.specs.Searching.{gap_at, Limits, Ends}
 use Rattle.search.specs.Order.{Ordered}
-use Rattle.search.specs.declared.order.Ended.{Ended}
-use Rattle.search.specs.declared.order.Ended.TheVariants.{Whole, Short}
 use Rattle.search.proofs.Fitting.{Kinds, is_add, is_remove, is_empty, is_none, kinds}
 use Rattle.search.proofs.LastGaps.{limit_add_removed, limit_other, limit_none, last_gap}
 
@@ -51,10 +50,10 @@ module _ {count end : ℕ} {table partner reach gaps limit : List ℕ} (held : H
     tables_serve : NoViolation Queue (tabled count end table) → Sound (tabled count end table) (reach_at reach) (gap_at limit)
     tables_serve clean = tables_fit held.lawful right.reaches (λ n listed l. clean n listed) (λ e is. (have_gaps clean e is).1.lies) (λ e is. (have_gaps clean e is).1.uncovered)
 
-    pub ordered : (list : List ℕ) (ended : Ended) → Ends (tabled count end table) reach limit ended list → Ordered (tabled count end table) ended list
-    ordered list (Whole k) (within, sized, judged, continues) =
+    pub ordered : (list : List ℕ) (ended : Option ℕ) → Ends (tabled count end table) reach limit ended list → Ordered (tabled count end table) ended list
+    ordered list (Some k) (within, sized, judged, continues) =
         let clean : NoViolation Queue (tabled count end table) = λ n listed. excluded held.lawful (judged_complete judged) in
         let found : Found (tabled count end table) (take k list) =
         record { reach = reach_at reach; gap = gap_at limit; reaches = right.reaches; gaps = λ e is. (have_gaps clean e is).1; continues = continues (λ e is. (have_gaps clean e is).0) } in
         record { sized = sized; within = within; judged = judged; found = found }
-    ordered list Short (sized, unfit) = (sized, λ clean. unfit (tables_serve clean) (λ e is. (have_gaps clean e is).0))
+    ordered list None (sized, unfit) = (sized, λ clean. unfit (tables_serve clean) (λ e is. (have_gaps clean e is).0))

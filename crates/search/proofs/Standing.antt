@@ -1,11 +1,12 @@
--- How the search stands: at its start, when an operation is placed, and when it ends.
-use Prim.Native.Nat.{ℕ, ◌-◌, ◌≤◌, ◌<◌}
+-- How the search stands: when an operation is placed, and when it ends.
+use Prim.Native.Nat.{ℕ, ◌+◌, ◌-◌, ◌≤◌, ◌<◌}
 use native.Mathlib.Omega.{arith}
 use mathlib.Core.Path.{◌≡◌, sym, ap, ◌∙◌}
 use mathlib.Core.Logic.{◌⊎◌, inl, inr}
 use mathlib.Core.List.{List, [], ◌∷◌, ◌++◌, append-nil}
-use lib.ListN.{length, get_or, take, length-append}
-use lib.Seq.{length-take-le, get_or-take, slice_empty, append_snoc}
+use lib.ListN.{length, get_or, take, drop, length-append}
+use Rattle.std.proofs.lemmas.List.{drop-take}
+use lib.Seq.{length-take-le, get_or-take, append_snoc}
 use Rattle.reader.specs.Log.{max_records}
 use Rattle.table.specs.Table.{without, Pushed}
 use Rattle.history.specs.Object.{Queue}
@@ -16,39 +17,29 @@ use Rattle.violations.specs.Verdict.{JudgedLinearization}
 use Rattle.violations.specs.Search.{Single, Sound, Searched}
 use Rattle.violations.specs.Greedy.{Left, Placeable, Continues, ends, places}
 use Rattle.violations.specs.Found.{Serves}
-use Rattle.violations.proofs.Laws.{search_starts, search_places, search_ends, search_goes_on}
+use Rattle.violations.proofs.Laws.{search_places, search_ends, search_goes_on}
 use Rattle.violations.proofs.Greedy.{begun_few}
 use Rattle.violations.proofs.Lists.{snoc, listed_old, listed_new, listed_either, each_snoc, pairs_snoc}
 use Rattle.matching.specs.Held.{Held}
 use Rattle.matching.specs.Reaches.{reach_at, Reaching}
 use Rattle.matching.specs.Answers.{First}
-use Rattle.search.specs.Searching.{gap_at, HaveGaps, Limits, Waits, order_in, waiting_in, queue_in, Stands, Room, Ready, Cap, Fit, QueueRoom, Queues}
+use Rattle.search.specs.Searching.{gap_at, HaveGaps, Limits, Waits, order_in, waiting_in, queue_in, Stands, Room, Ready, Cap, Fit, Queues}
 use Rattle.search.specs.declared.search.Stand.{Stand}
-use Rattle.search.proofs.Waiting.{waits_none, waits_enabled, enabled_waits, none_waits}
+use Rattle.search.proofs.Waiting.{waits_enabled, enabled_waits, none_waits}
 use Rattle.search.proofs.Removing.{without_was, without_keeps, without_rises}
-use Rattle.search.proofs.Fitting.{fit_remove, fit_places, placeable_fits}
-
--- at the start nothing is placed, and nothing waits
-pub stands_start : {h : History} (reach limit waiting queue list : List ℕ) → Held h → length waiting ≡ max_records → length queue ≡ max_records → length list ≡ max_records
-    → Stands h reach limit (record { next = 0; waiting = 0; head = 0; tail = 0; placed = 0 }) waiting queue list
-stands_start {h} reach limit waiting queue list held w q l = record {
-  waiting_sized = w;
-  queue_sized = q;
-  list_sized = l;
-  next_within = omega arith;
-  waiting_within = omega arith;
-  head_within = omega arith;
-  tail_within = omega arith;
-  placed_within = omega arith;
-  searched = rw (slice_empty 0 queue) (search_starts held.lawful (reach_at reach) (gap_at limit));
-  waits = waits_none h;
-  placed_below = λ o at. absurd (omega (arith, at.below));
-  built = λ gaps more continues. rw (slice_empty 0 queue) at continues;
-}
+use Rattle.search.proofs.Fitting.{QueueRoom, queue_long, fit_remove, fit_places, placeable_fits}
 
 -- an index of a table below n is one of its first n entries
 pub entry : (table : List ℕ) (n i : ℕ) → n ≤ length table → i < n → Listed (take n table) (get_or table i 0)
 entry table n i within l = record { at = i; below = omega (arith, length-take-le n table within); here = get_or-take n table i 0 l }
+
+-- what waits fits its table, and is operations
+module _ {h : History} {next n : ℕ} {waiting : List ℕ} (held : Held h) (room : Room h next n waiting) where
+  pub room_fits : n ≤ length waiting
+  room_fits = omega (arith, room.within, room.next_within, room.sized, held.few)
+
+  pub room_known : {i : ℕ} → i < n → get_or waiting i 0 < h.count
+  room_known {i} l = room.known _ (entry waiting n i room_fits l)
 
 module _ {h : History} {reach limit : List ℕ} {s : Stand} {waiting queue list : List ℕ} (held : Held h) (stands : Stands h reach limit s waiting queue list) where
   pub stands_room : Room h s.next s.waiting waiting
@@ -62,7 +53,13 @@ module _ {h : History} {reach limit : List ℕ} {s : Stand} {waiting queue list 
     known = λ o at. (stands.searched.queued.added o at).0.known;
   }
 
-  waiting_long : length (waiting_in s waiting) ≡ s.waiting
+  -- the queue as the code cuts it out of its table
+  pub queue_cut : take (s.tail - s.head) (drop s.head queue) ≡ queue_in s queue
+  queue_cut =
+      let e : s.head + (s.tail - s.head) ≡ s.tail = omega (arith, stands.head_within) in
+      sym (rw e at (drop-take s.head (s.tail - s.head) queue))
+
+  pub waiting_long : length (waiting_in s waiting) ≡ s.waiting
   waiting_long = length-take-le s.waiting waiting (omega (arith, stands.waiting_sized, stands.waiting_within, stands.next_within, held.few))
 
   order_long : length (order_in s list) ≡ s.placed
@@ -103,19 +100,17 @@ module _ {h : History} {reach limit : List ℕ} {s : Stand} {waiting queue list 
     -- what is placeable waits, and fits
     record Waiter (p : ℕ) : Type 0 where
       index : ℕ
-      inside : index < s.waiting
+      inside : index < length waiters
       here : placed waiters index ≡ p
-      fit : Fit h reach queue s cap (get_or waiting index 0)
+      fit : Fit h reach (queue_in s queue) cap (placed waiters index)
 
     waiter : HaveGaps h limit → {p : ℕ} {queue' : List ℕ} → Placeable h (Serves h (reach_at reach) (gap_at limit)) order (queue_in s queue) p queue' → Waiter p
     waiter gaps {p} placeable =
         let there = enabled_waits held.lawful stands.waits ready.enabling placeable.enabled in
-        let inside : there.at < s.waiting = omega (arith, there.below, waiting_long held stands) in
-        let fits : Fit h reach queue s cap p = placeable_fits reach limit order cap limits capped (stands_queue held stands) held reaching gaps placeable in
-        record { index = there.at; inside = inside; here = there.here; fit = rw (← there.here, get_or-take s.waiting waiting there.at 0 inside) at fits }
+        record { index = there.at; inside = there.below; here = there.here; fit = rw (there.here) (placeable_fits reach limit order cap limits capped held reaching gaps placeable) }
 
     -- where none of those that wait fits, the tables do not serve
-    pub ready_short : 0 < s.waiting → ((i : ℕ) → i < s.waiting → Fit h reach queue s cap (get_or waiting i 0) → ⊥) → Sound h (reach_at reach) (gap_at limit) → HaveGaps h limit → ⊥
+    pub ready_short : 0 < s.waiting → ((i : ℕ) → i < length waiters → Fit h reach (queue_in s queue) cap (placed waiters i) → ⊥) → Sound h (reach_at reach) (gap_at limit) → HaveGaps h limit → ⊥
     ready_short some none sound gaps =
         let first : Listed waiters (get_or waiting 0 0) = entry waiting s.waiting 0 (omega (arith, stands.waiting_sized, stands.waiting_within, stands.next_within, held.few)) some in
         let (o, queue', placeable) = search_goes_on held.lawful sound stands.searched (stands.waits.are (get_or waiting 0 0) first).1 in
@@ -123,7 +118,7 @@ module _ {h : History} {reach limit : List ℕ} {s : Stand} {waiting queue list 
         none w.index w.inside w.fit
 
     -- The first of those that wait that fits is placed.
-    module _ (single : Single h) {i : ℕ} (inside : i < s.waiting) (first : First (λ j. Fit h reach queue s cap (get_or waiting j 0)) s.waiting i) where
+    module _ (single : Single h) {i : ℕ} (inside : i < s.waiting) (first : First (λ j. Fit h reach (queue_in s queue) cap (placed waiters j)) (length waiters) i) where
       abbrev o : ℕ
       o = get_or waiting i 0
 
@@ -133,12 +128,15 @@ module _ {h : History} {reach limit : List ℕ} {s : Stand} {waiting queue list 
       in_waiters : i < length waiters
       in_waiters = omega (arith, waiting_long held stands)
 
+      fit : Fit h reach (queue_in s queue) cap o
+      fit = rw at_i at (first.holds in_waiters)
+
       -- it is the lowest that is placeable
       lowest : HaveGaps h limit → (p : ℕ) (other : List ℕ) → p < o → Placeable h (Serves h (reach_at reach) (gap_at limit)) order (queue_in s queue) p other → ⊥
       lowest gaps p queue' less placeable =
           let w = waiter gaps placeable in
           let not-here : w.index ≡ i → ⊥ = λ e. omega (arith, ap (placed waiters) e, w.here, at_i) in
-          let not_behind : i < w.index → ⊥ = λ l. omega (arith, stands.waits.rise i w.index l (omega (arith, w.inside, waiting_long held stands)), w.here, at_i) in
+          let not_behind : i < w.index → ⊥ = λ l. omega (arith, stands.waits.rise i w.index l w.inside, w.here, at_i) in
           first.none_lower w.index (omega arith) w.fit
 
       o_waits : Listed waiters o
@@ -195,7 +193,7 @@ module _ {h : History} {reach limit : List ℕ} {s : Stand} {waiting queue list 
           let grown : order_in t list' ≡ snoc order o = rw queues.placed_is pushed.holds in
           let fewer : waiting_in t waiting' ≡ without i waiters = rw queues.waiting_is left in
           let placeable : Placeable h (Serves h (reach_at reach) (gap_at limit)) order (queue_in s queue) o (queue_in t queue') =
-          fit_places reach limit order cap limits capped (stands_queue held stands) (waits_enabled held.lawful stands.waits ready.enabling o_waits) (first.holds inside) (queue_in t queue') queues.added queues.removed queues.empty in
+          fit_places reach limit order cap limits capped (stands_queue held stands) (waits_enabled held.lawful stands.waits ready.enabling o_waits) fit (queue_in t queue') queues.added queues.removed queues.empty in
           let more : Searched h (reach_at reach) (gap_at limit) (snoc order o) (queue_in t queue') = search_places held.lawful stands.searched single placeable in
           record {
             waiting_sized = sized;
@@ -203,7 +201,7 @@ module _ {h : History} {reach limit : List ℕ} {s : Stand} {waiting queue list 
             list_sized = pushed.sized;
             next_within = omega (arith, queues.next_is, stands.next_within);
             waiting_within = omega (arith, queues.waiting_is, queues.next_is, stands.waiting_within);
-            head_within = queues.head_within (λ k. (fit_remove (first.holds inside) k).0);
+            head_within = queues.head_within (λ k. omega (arith, fit_remove fit k, queue_long (stands_queue held stands)));
             tail_within = omega (arith, queues.tail_within, queues.placed_is, stands.tail_within);
             placed_within = omega (arith, begun_few more.begun, length-append order (o ∷ []), order_long held stands, queues.placed_is);
             searched = rw grown more;

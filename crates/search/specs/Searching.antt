@@ -1,6 +1,6 @@
 -- What the code keeps while it searches for an order: the operations that wait to be placed, the queue, and the order so far. The theory of the
 -- search is in the crate violations, specs/Search.antt. What the judge answers can be understood without this file.
-use Rattle.std.specs.Prelude.{ℕ, ◌+◌, ◌-◌, ◌≤◌, ◌<◌, ◌≡◌, ◌⊎◌, List, [], ◌∷◌, ◌++◌, length, get_or, take}
+use Rattle.std.specs.Prelude.{ℕ, ◌+◌, ◌-◌, ◌≤◌, ◌<◌, ◌≡◌, ◌⊎◌, List, [], ◌∷◌, ◌++◌, length, get_or, take, Option, Some, None}
 use Rattle.std.proofs.Math.Seq.{slice}
 use Rattle.reader.specs.Log.{max_records}
 use Rattle.history.specs.Object.{Queue}
@@ -16,8 +16,6 @@ use Rattle.matching.specs.Reaches.{reach_at, Reaching}
 use Rattle.search.specs.Bounds.{limit_at}
 use Rattle.search.specs.declared.search.Stand.{Stand}
 use Rattle.search.specs.declared.search.Admission.{Admission}
-use Rattle.search.specs.declared.order.Ended.{Ended}
-use Rattle.search.specs.declared.order.Ended.TheVariants.{Whole, Short}
 
 -- the gap of an empty remove, as the table of limits has it
 abbrev pub gap_at : List ℕ → ℕ → ℕ
@@ -116,17 +114,10 @@ pub record Cap (h : History) (limit order : List ℕ) (x : ℕ) : Type 0 where
 
 -- An operation may be placed next: an add that reaches less far than the limits of what is left allow, a remove of the value at the front of the
 -- queue, an empty remove if the queue is empty.
-pub data Fit (h : History) (reach queue : List ℕ) (s : Stand) (cap o : ℕ) : Type 0 where
-  adds : h.kind o ≡ add → reach_at reach o < cap → Fit h reach queue s cap o
-  removes : h.kind o ≡ remove → s.head < s.tail → h.value (get_or queue s.head 0) ≡ h.value o → Fit h reach queue s cap o
-  empties : h.kind o ≡ empty_remove → s.head ≡ s.tail → Fit h reach queue s cap o
-
--- The queue lies inside its table and holds operations.
-pub record QueueRoom (h : History) (s : Stand) (queue : List ℕ) : Type 0 where
-  pub sized : length queue ≡ max_records
-  pub head_within : s.head ≤ s.tail
-  pub tail_within : s.tail ≤ max_records
-  pub known : (o : ℕ) → Listed (queue_in s queue) o → o < h.count
+pub data Fit (h : History) (reach queue : List ℕ) (cap o : ℕ) : Type 0 where
+  adds : h.kind o ≡ add → reach_at reach o < cap → Fit h reach queue cap o
+  removes : h.kind o ≡ remove → 0 < length queue → h.value (get_or queue 0 0) ≡ h.value o → Fit h reach queue cap o
+  empties : h.kind o ≡ empty_remove → length queue ≡ 0 → Fit h reach queue cap o
 
 -- What placing operation o of this kind makes of the queue.
 pub record Queues (kind o : ℕ) (s : Stand) (queue : List ℕ) (t : Stand) (queue' : List ℕ) : Type 0 where
@@ -145,11 +136,11 @@ pub record Placed (h : History) (s : Stand) (i : ℕ) (waiting queue list : List
   pub placed_is : t.placed ≡ s.placed + 1
   pub stands : (reach limit : List ℕ) (cap : ℕ) → Reaching h reach → Limits h limit → Single h
       → Cap h limit (order_in s list) cap → Ready h reach limit s waiting queue list
-      → First (λ j. Fit h reach queue s cap (get_or waiting j 0)) s.waiting i → Stands h reach limit t waiting' queue' list'
+      → First (λ j. Fit h reach (queue_in s queue) cap (get_or (waiting_in s waiting) j 0)) (length (waiting_in s waiting)) i → Stands h reach limit t waiting' queue' list'
 
 -- What the search comes to: a legal order as the judge lists it, found as the search goes, or the tables do not serve, since some pattern occurs.
-abbrev pub Ends : History → List ℕ → List ℕ → Ended → List ℕ → Type 0
-Ends h reach limit (Whole k) list =
+abbrev pub Ends : History → List ℕ → List ℕ → Option ℕ → List ℕ → Type 0
+Ends h reach limit (Some k) list =
     (k ≤ max_records) × (length list ≡ max_records) × JudgedLinearization Queue h (take k list)
     × (HaveGaps h limit → Continues h (Serves h (reach_at reach) (gap_at limit)) [] [] (take k list))
-Ends h reach limit Short list = (length list ≡ max_records) × (Sound h (reach_at reach) (gap_at limit) → HaveGaps h limit → ⊥)
+Ends h reach limit None list = (length list ≡ max_records) × (Sound h (reach_at reach) (gap_at limit) → HaveGaps h limit → ⊥)

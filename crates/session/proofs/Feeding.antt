@@ -6,11 +6,11 @@ use mathlib.Core.List.{List, [], ◌∷◌, ◌++◌, map, map-append, reverse, 
 use lib.ListN.{length, drop, length-append, length-drop}
 use lib.Seq.{drop-drop}
 use borrow.Author.Tests.{le-ltb}
+use Rattle.std.specs.Prelude.{Result, Ok, Err}
+use Rattle.record.specs.declared.refusal.Refused.{Refused}
 use Rattle.record.specs.Number.{bytes_of, Bytes}
 use Rattle.record.specs.Record.{encode, size_of, Small}
 use Rattle.record.specs.declared.record.Record.{Record}
-use Rattle.buffer.specs.declared.output.Output.{Output}
-use Rattle.buffer.specs.declared.output.Output.TheVariants.{Written, Refused}
 use Rattle.reader.specs.Log.{header_length, max_records, Reading, readable, refused, read_partial, read_log, fault, encode_all, encode_log}
 use Rattle.reader.specs.Readable.{sizes, Writable}
 use Rattle.reader.proofs.Bytes.{sizes_snoc}
@@ -23,7 +23,7 @@ use Rattle.session.specs.Course.{Lent, begun, answer_to, after_feed, after_close
 use Rattle.session.proofs.Holding.{Holding, refused_leaves, accepted_takes, fitting_taken, holding_closes, closed_refuses_feed, closed_refuses_close}
 
 -- a session that was begun holds no records
-pub begun_holds : (buffer : List ℕ) → header_length ≤ length buffer → (begin_answer buffer ≡ Written header_length) × Holding (begun buffer) [] (drop header_length buffer)
+pub begun_holds : (buffer : List ℕ) → header_length ≤ length buffer → (begin_answer buffer ≡ Ok header_length) × Holding (begun buffer) [] (drop header_length buffer)
 unfolding bytes_of encode_all
 begun_holds buffer room =
     let fits = le-ltb (length buffer) header_length room in
@@ -51,7 +51,7 @@ judged_readable log answer j e {records} reads = go (read_log log) refl answer j
         let two : readable others ≡ readable records = sym (readable_is_partial log others r) ∙ reads in
         let same : others ≡ records = cc in
         r ∙ ap readable same
-    go (refused number index) r answer turned_down e = absurd (omega (arith, e))
+    go (refused refusal index) r answer turned_down e = absurd (omega (arith, e))
 
 -- what lies behind records in a buffer that they were fed into
 abbrev pub rest : List ℕ → List Record → List ℕ
@@ -69,12 +69,12 @@ module _ {buffer : List ℕ} where
   feed_grows {accepted} {s} g bytes b = go g.stands
     where
       -- a refused feed leaves all as it was
-      unfed : {number index : ℕ} → answer_to s bytes ≡ Refused number index → accepted ++ if_accepted (answer_to s bytes) bytes ≡ accepted
+      unfed : {r : Refused} → answer_to s bytes ≡ Err r → accepted ++ if_accepted (answer_to s bytes) bytes ≡ accepted
       unfed e = ap (λ a. accepted ++ if_accepted a bytes) e ∙ append-nil accepted
 
-      by_answer : Holding s g.fed (rest buffer g.fed) → (a : Output) → answer_to s bytes ≡ a → Grown buffer (accepted ++ if_accepted (answer_to s bytes) bytes) (after_feed s bytes)
-      by_answer h (Refused number index) e = record { fed = g.fed; accepted_are = unfed e ∙ g.accepted_are; stands = open_with (refused_leaves h bytes e) }
-      by_answer h (Written n) e =
+      by_answer : Holding s g.fed (rest buffer g.fed) → (a : Result ℕ Refused) → answer_to s bytes ≡ a → Grown buffer (accepted ++ if_accepted (answer_to s bytes) bytes) (after_feed s bytes)
+      by_answer h (Err r) e = record { fed = g.fed; accepted_are = unfed e ∙ g.accepted_are; stands = open_with (refused_leaves h bytes e) }
+      by_answer h (Ok n) e =
           let t = accepted_takes h bytes b e in
           let more : accepted ++ (bytes ∷ []) ≡ map encode (g.fed ++ (t.is ∷ [])) = ap (λ xs. xs ++ (bytes ∷ [])) g.accepted_are ∙ ap (λ x. map encode g.fed ++ (x ∷ [])) t.bytes_are ∙ sym (map-append encode g.fed (t.is ∷ [])) in
           let behind : drop (size_of t.is) (rest buffer g.fed) ≡ rest buffer (g.fed ++ (t.is ∷ [])) =
@@ -101,8 +101,8 @@ module _ {buffer : List ℕ} where
     where
       by_answer : Holding s g.fed (rest buffer g.fed) → (answer : Verdict) → Judges (read_log (encode_log g.fed)) sheet answer left → Stands (after_close s answer) g.fed (rest buffer g.fed)
       by_answer h (judge.Order k) j = closed_with refl (holding_same h (sym h.stage_is) refl refl) (judged_readable (encode_log g.fed) (judge.Order k) j refl (written_log g.fed h.few h.writable))
-      by_answer h (judge.Pattern number k) j = closed_with refl (holding_same h (sym h.stage_is) refl refl) (judged_readable (encode_log g.fed) (judge.Pattern number k) j refl (written_log g.fed h.few h.writable))
-      by_answer h (judge.Refused number index) j = open_with (holding_same h refl refl refl)
+      by_answer h (judge.Pattern found) j = closed_with refl (holding_same h (sym h.stage_is) refl refl) (judged_readable (encode_log g.fed) (judge.Pattern found) j refl (written_log g.fed h.few h.writable))
+      by_answer h (judge.Refused r) j = open_with (holding_same h refl refl refl)
 
       go : Stands s g.fed (rest buffer g.fed) → Stands (after_close s answer) g.fed (rest buffer g.fed)
       go (open_with h) = by_answer h answer (rw (holding_closes h) at closes.judges)
@@ -118,13 +118,13 @@ module _ {buffer : List ℕ} where
   since_grown (then_closed since answer closes) = close_grows (since_grown since) answer closes
 
 -- what can be written behind others: its first record fits
-first_fits : {past : List Record} (done after : List Record) {r : Record} → Writable past (done ++ (r ∷ after)) → Small r × (fault (reverse done ++ past) r ≡ 0)
+first_fits : {past : List Record} (done after : List Record) {r : Record} → Writable past (done ++ (r ∷ after)) → Small r × (fault (reverse done ++ past) r ≡ Ok tt)
 first_fits [] after (Writable.more small ok others) = (small, ok)
 first_fits {past} (x ∷ done) after (Writable.more small ok others) = let (fits, fine) = first_fits done after others in (fits, rw (reverse-cons x done, append_assoc (reverse done) (x ∷ []) past) fine)
 
 -- Records that can be written behind those that are held, and for which there is room, are all accepted.
 pub records_taken : {s : Lent} {done : List Record} {behind : List ℕ} → Holding s done behind → (records : List Record) → Writable [] (done ++ records) → length (done ++ records) ≤ max_records → sizes records ≤ length behind
-    → (answers_to s (map encode records) ≡ map (λ r. Written (size_of r)) records) × Holding (after_feeds s (map encode records)) (done ++ records) (drop (sizes records) behind)
+    → (answers_to s (map encode records) ≡ map (λ r. Ok (size_of r)) records) × Holding (after_feeds s (map encode records)) (done ++ records) (drop (sizes records) behind)
 unfolding after_feeds answers_to sizes
 records_taken {s} {done} {behind} h [] w few room = (refl, rw (append-nil done) h)
 records_taken {s} {done} {behind} h (r ∷ records) w few room =
@@ -132,16 +132,16 @@ records_taken {s} {done} {behind} h (r ∷ records) w few room =
     let (accepted, held) = fitting_taken h r small (rw (append-nil (reverse done)) at ok) (omega (arith, length-append done (r ∷ records))) (omega arith) in
     let joins : (done ++ (r ∷ [])) ++ records ≡ done ++ (r ∷ records) = append_assoc done (r ∷ []) records in
     let (answers, holding) = records_taken {s = after_feed s (encode r)} {done = done ++ (r ∷ [])} {behind = drop (size_of r) behind} held records (subst (Writable []) (sym joins) w) (omega (arith, ap length joins)) (omega (arith, length-drop (size_of r) behind)) in
-    (ap (λ a. a ∷ answers_to (after_feed s (encode r)) (map encode records)) accepted ∙ ap (λ others. Written (size_of r) ∷ others) answers, rw (joins, drop-drop (sizes records) (size_of r) behind) at holding)
+    (ap (λ a. a ∷ answers_to (after_feed s (encode r)) (map encode records)) accepted ∙ ap (λ others. Ok (size_of r) ∷ others) answers, rw (joins, drop-drop (sizes records) (size_of r) behind) at holding)
 
 -- the feeds that are accepted are those whose answers say so
-pub all_accepted : {buffer : List ℕ} {accepted : List (List ℕ)} {s : Lent} → Since buffer accepted s → (records : List Record) → ((r : Record) → Bytes (encode r)) → answers_to s (map encode records) ≡ map (λ r. Written (size_of r)) records
+pub all_accepted : {buffer : List ℕ} {accepted : List (List ℕ)} {s : Lent} → Since buffer accepted s → (records : List Record) → ((r : Record) → Bytes (encode r)) → answers_to s (map encode records) ≡ map (λ r. Ok (size_of r)) records
     → Since buffer (accepted ++ map encode records) (after_feeds s (map encode records))
 unfolding after_feeds answers_to
 all_accepted {accepted = accepted} since [] bytes e = rw (append-nil accepted) since
 all_accepted {buffer} {accepted} {s} since (r ∷ records) bytes e =
-    let first : answer_to s (encode r) ≡ Written (size_of r) = cc in
-    let others : answers_to (after_feed s (encode r)) (map encode records) ≡ map (λ r. Written (size_of r)) records = cc in
+    let first : answer_to s (encode r) ≡ Ok (size_of r) = cc in
+    let others : answers_to (after_feed s (encode r)) (map encode records) ≡ map (λ r. Ok (size_of r)) records = cc in
     let one : Since buffer (accepted ++ (encode r ∷ [])) (after_feed s (encode r)) = subst (λ a. Since buffer (accepted ++ if_accepted a (encode r)) (after_feed s (encode r))) first (then_fed since (encode r) (bytes r)) in
     subst (λ l. Since buffer l (after_feeds (after_feed s (encode r)) (map encode records))) (append_assoc accepted (encode r ∷ []) (map encode records)) (all_accepted {accepted = accepted ++ (encode r ∷ [])} {s = after_feed s (encode r)} one records bytes others)
 

@@ -2,28 +2,30 @@
 use Prim.Native.Nat.{ℕ, ◌+◌, ◌≤◌, ◌<◌}
 use native.Mathlib.Omega.{arith}
 use mathlib.Core.Path.{◌≡◌, refl, sym, ap, ◌∙◌, subst}
-use mathlib.Core.Bool.{Bool, true, false, not}
+use mathlib.Core.Bool.{Bool, true, false}
 use mathlib.Core.List.{List, [], ◌∷◌, ◌++◌, reverse, append_assoc, append-nil}
 use lib.ListN.{length, drop, length-append}
-use lib.Dec.{ltb, leb, eqb}
+use lib.Dec.{ltb, leb}
 use lib.Seq.{take-append_seam, drop-append-add}
-use borrow.Author.Tests.{le-ltb, lt-leb, leb-false, eqb-true}
-use Rattle.std.specs.Prelude.{if◌then◌else◌}
+use borrow.Author.Tests.{le-ltb, lt-leb, leb-false}
+use Rattle.std.specs.Prelude.{Result, Ok, Err, if◌then◌else◌}
+use Rattle.record.specs.Refusal.{refusing}
+use Rattle.record.specs.declared.refusal.Refusal.{Refusal}
+use Rattle.record.specs.declared.refusal.Refusal.TheVariants.{BufferTooShort, SessionFull, SessionClosed}
+use Rattle.record.specs.declared.refusal.Refused.{Refused}
 use Rattle.record.specs.Number.{bytes_of, Bytes}
 use Rattle.record.specs.Record.{encode, size_of, Small}
 use Rattle.record.specs.declared.record.Record.{Record}
 use Rattle.record.proofs.Numbers.{number_there}
 use Rattle.record.proofs.Laws.{encode_length}
-use Rattle.buffer.specs.Buffer.{buffer_too_short, put}
-use Rattle.buffer.specs.declared.output.Output.TheVariants.{Written, Refused}
+use Rattle.buffer.specs.Buffer.{put}
 use Rattle.reader.specs.Log.{log_version, max_records, count_field, with_count, fault, readable, refused, read_partial, read_log, encode_all, encode_log}
-use Rattle.reader.specs.Feed.{fault_behind, extended}
+use Rattle.reader.specs.Feed.{fault_behind, unless_faulty, extended}
 use Rattle.reader.specs.Readable.{Writable}
-use Rattle.reader.specs.declared.log.Extension.TheVariants.{Full, Faulty, Fits}
 use Rattle.reader.proofs.Laws.{written_log, faultless_is_record, record_is_faultless, writable_more, encode_snoc}
 use Rattle.judge.specs.Judge.{Judges, turned_down}
 use Rattle.judge.specs.declared.judge.Verdict.{Verdict}
-use Rattle.session.specs.Session.{open_stage, closed_stage, session_closed, stage_closed, held_log, stage_refusal, session_reading, fed_answer, feed_answer, fed_buffer, used_fed}
+use Rattle.session.specs.Session.{open_stage, closed_stage, stage_closed, held_log, stage_refusal, session_reading, fed_answer, feed_answer, fed_buffer, used_fed}
 use Rattle.session.specs.Course.{Lent, answer_to, after_feed}
 use Rattle.session.proofs.Refusing.{open_unrefused, open_reading}
 
@@ -81,7 +83,7 @@ module _ {s : Lent} {records : List Record} {rest : List ℕ} (h : Holding s rec
   feed_is bytes = rw (h.stage_is, h.used_is, h.buffer_is, open_unrefused (length log) (log ++ rest) (within log rest) held_reads, held_is log rest, reads) refl
 
   -- a refused feed leaves all as it was
-  pub refused_leaves : (bytes : List ℕ) {number index : ℕ} → answer_to s bytes ≡ Refused number index → Holding (after_feed s bytes) records rest
+  pub refused_leaves : (bytes : List ℕ) {r : Refused} → answer_to s bytes ≡ Err r → Holding (after_feed s bytes) records rest
   refused_leaves bytes e = record {
     stage_is = h.stage_is;
     used_is = ap (λ a. used_fed s.used a) e ∙ h.used_is;
@@ -91,7 +93,7 @@ module _ {s : Lent} {records : List Record} {rest : List ℕ} (h : Holding s rec
   }
 
   -- a record that fits, and for whose bytes there is room, then stands behind the others
-  grows : (r : Record) → Small r → fault (reverse records) r ≡ 0 → length records < max_records → answer_to s (encode r) ≡ Written (length (encode r)) → Holding (after_feed s (encode r)) (records ++ (r ∷ [])) (drop (size_of r) rest)
+  grows : (r : Record) → Small r → fault (reverse records) r ≡ Ok tt → length records < max_records → answer_to s (encode r) ≡ Ok (length (encode r)) → Holding (after_feed s (encode r)) (records ++ (r ∷ [])) (drop (size_of r) rest)
   unfolding bytes_of
   grows r small ok room e = record {
     stage_is = h.stage_is;
@@ -108,42 +110,43 @@ module _ {s : Lent} {records : List Record} {rest : List ℕ} (h : Holding s rec
     pub count : n ≡ size_of is
     pub holding : Holding (after_feed s bytes) (records ++ (is ∷ [])) (drop (size_of is) rest)
 
-  pub accepted_takes : (bytes : List ℕ) → Bytes bytes → {n : ℕ} → answer_to s bytes ≡ Written n → Taken bytes n
-  accepted_takes bytes b {n} e = full (leb max_records (length records)) (eqb (fault_behind (reverse records) bytes) 0) refl refl (sym (feed_is bytes) ∙ e)
+  pub accepted_takes : (bytes : List ℕ) → Bytes bytes → {n : ℕ} → answer_to s bytes ≡ Ok n → Taken bytes n
+  accepted_takes bytes b {n} e = full (leb max_records (length records)) refl (sym (feed_is bytes) ∙ e)
     where
-      never : {number index : ℕ} → Refused number index ≡ Written n → Taken bytes n
-      never e = let z : ◌≡◌ {A = ℕ} 0 1 = cc in absurd (omega arith)
-
-      roomy : (lacks : Bool) → leb max_records (length records) ≡ false → fault_behind (reverse records) bytes ≡ 0 → (if lacks then Refused buffer_too_short 0 else Written (length bytes)) ≡ Written n → Taken bytes n
-      roomy true l z e = never e
+      roomy : (lacks : Bool) → leb max_records (length records) ≡ false → fault_behind (reverse records) bytes ≡ Ok tt → (if lacks then refusing BufferTooShort 0 else Ok (length bytes)) ≡ Ok n → Taken bytes n
+      roomy true l z e = cc
       roomy false l z f =
           let behind = faultless_is_record (reverse records) bytes b z in
           let same : n ≡ length bytes = cc in
-          let taken : answer_to s bytes ≡ Written (length bytes) = e ∙ ap Written same in
+          let taken : answer_to s bytes ≡ Ok (length bytes) = e ∙ ap Ok same in
           record {
             is = behind.is;
             bytes_are = behind.bytes_are;
             count = same ∙ ap length behind.bytes_are ∙ encode_length behind.is;
             holding = subst (λ x. Holding (after_feed s x) (records ++ (behind.is ∷ [])) (drop (size_of behind.is) rest)) (sym behind.bytes_are)
-                (grows behind.is behind.small behind.ok (leb-false max_records (length records) l) (subst (λ x. answer_to s x ≡ Written (length x)) behind.bytes_are taken));
+                (grows behind.is behind.small behind.ok (leb-false max_records (length records) l) (subst (λ x. answer_to s x ≡ Ok (length x)) behind.bytes_are taken));
           }
 
-      full : (a ok : Bool) → leb max_records (length records) ≡ a → eqb (fault_behind (reverse records) bytes) 0 ≡ ok
-          → fed_answer (if a then Full else if not ok then Faulty (fault_behind (reverse records) bytes) (length records) else Fits (length records)) (length log) (log ++ rest) bytes ≡ Written n → Taken bytes n
-      full true ok l z e = never e
-      full false false l z e = never e
-      full false true l z e = roomy (ltb (length (log ++ rest)) (length log + length bytes)) l (eqb-true (fault_behind (reverse records) bytes) 0 z) e
+      faulty : (fault : Result (Unit {0}) Refusal) → leb max_records (length records) ≡ false → fault_behind (reverse records) bytes ≡ fault
+          → fed_answer (unless_faulty fault (length records)) (length log) (log ++ rest) bytes ≡ Ok n → Taken bytes n
+      faulty (Err refusal) l z e = cc
+      faulty (Ok _) l z e = roomy (ltb (length (log ++ rest)) (length log + length bytes)) l z e
+
+      full : (a : Bool) → leb max_records (length records) ≡ a
+          → fed_answer (if a then refusing SessionFull 0 else unless_faulty (fault_behind (reverse records) bytes) (length records)) (length log) (log ++ rest) bytes ≡ Ok n → Taken bytes n
+      full true l e = cc
+      full false l e = faulty (fault_behind (reverse records) bytes) l refl e
 
   -- and a record that fits is taken, if there is room
-  pub fitting_taken : (r : Record) → Small r → fault (reverse records) r ≡ 0 → length records < max_records → size_of r ≤ length rest
-      → (answer_to s (encode r) ≡ Written (size_of r)) × Holding (after_feed s (encode r)) (records ++ (r ∷ [])) (drop (size_of r) rest)
+  pub fitting_taken : (r : Record) → Small r → fault (reverse records) r ≡ Ok tt → length records < max_records → size_of r ≤ length rest
+      → (answer_to s (encode r) ≡ Ok (size_of r)) × Holding (after_feed s (encode r)) (records ++ (r ∷ [])) (drop (size_of r) rest)
   fitting_taken r small ok room fits =
-      let accepted : answer_to s (encode r) ≡ Written (length (encode r)) = feed_is (encode r) ∙ rw (
+      let accepted : answer_to s (encode r) ≡ Ok (length (encode r)) = feed_is (encode r) ∙ rw (
         lt-leb max_records (length records) room,
         record_is_faultless (reverse records) r small ok,
         le-ltb (length (log ++ rest)) (length log + length (encode r)) (omega (arith, length-append log rest, encode_length r)),
       ) refl in
-      (accepted ∙ ap Written (encode_length r), grows r small ok room accepted)
+      (accepted ∙ ap Ok (encode_length r), grows r small ok room accepted)
 
   -- closing it judges the log
   pub holding_closes : session_reading open_stage s.stage s.used s.buffer ≡ read_log log
@@ -151,18 +154,18 @@ module _ {s : Lent} {records : List Record} {rest : List ℕ} (h : Holding s rec
 
 -- A closed session over a readable log refuses feeds and closing under 20, which leaves it closed.
 module _ {s : Lent} (stage : s.stage ≡ closed_stage) {records : List Record} {rest : List ℕ} (h : Holding (record { stage = open_stage; used = s.used; buffer = s.buffer }) records rest) (reads : read_log (encode_log records) ≡ readable records) where
-  closed_refusal : stage_refusal open_stage s.stage s.used s.buffer ≡ session_closed
+  closed_refusal : stage_refusal open_stage s.stage s.used s.buffer ≡ Err SessionClosed
   unfolding stage_refusal
   closed_refusal =
       let log : List ℕ = encode_log records in
       rw (stage, h.used_is, h.buffer_is, le-ltb (length (log ++ rest)) (length log) (within log rest), held_is log rest, reads) refl
 
-  pub closed_refuses_feed : (bytes : List ℕ) → answer_to s bytes ≡ Refused session_closed 0
+  pub closed_refuses_feed : (bytes : List ℕ) → answer_to s bytes ≡ refusing SessionClosed 0
   unfolding feed_answer
   closed_refuses_feed bytes = rw closed_refusal refl
 
   pub closed_refuses_close : {sheet left : List ℕ} (answer : Verdict) → Judges (session_reading open_stage s.stage s.used s.buffer) sheet answer left → stage_closed s.stage answer ≡ s.stage
   closed_refuses_close answer j = go answer (rw closed_refusal at j)
     where
-      go : {sheet left : List ℕ} (answer : Verdict) → Judges (refused session_closed 0) sheet answer left → stage_closed s.stage answer ≡ s.stage
+      go : {sheet left : List ℕ} (answer : Verdict) → Judges (refused SessionClosed 0) sheet answer left → stage_closed s.stage answer ≡ s.stage
       go answer turned_down = refl

@@ -1,10 +1,9 @@
 -- What a session goes through: calls, one after the other, and what they make of it and of the buffer that is lent to it. Document 01, "Sessions":
 -- "The lent buffer then always holds the log fed so far."
-use Rattle.std.specs.Prelude.{ℕ, ◌≤◌, ◌≡◌, List, [], ◌∷◌, ◌++◌, length, drop}
+use Rattle.std.specs.Prelude.{ℕ, ◌≤◌, ◌≡◌, List, Result, Ok, Err, [], ◌∷◌, ◌++◌, length, drop}
 use Rattle.record.specs.Number.{bytes_of, Bytes}
 use Rattle.record.specs.declared.record.Record.{Record}
-use Rattle.buffer.specs.declared.output.Output.{Output}
-use Rattle.buffer.specs.declared.output.Output.TheVariants.{Written, Refused}
+use Rattle.record.specs.declared.refusal.Refused.{Refused}
 use Rattle.reader.specs.Log.{log_version, header_length, readable, read_partial, read_log}
 use Rattle.judge.specs.Judge.{Judges}
 use Rattle.judge.specs.declared.judge.Verdict.{Verdict}
@@ -21,7 +20,7 @@ abbrev pub begun : List ℕ → Lent
 begun buffer = record { stage = open_stage; used = length empty_log; buffer = begin_leaves buffer }
 
 -- a feed: its answer, and what it leaves
-abbrev pub answer_to : Lent → List ℕ → Output
+abbrev pub answer_to : Lent → List ℕ → Result ℕ Refused
 answer_to s bytes = feed_answer s.stage s.used s.buffer bytes
 
 abbrev pub after_feed : Lent → List ℕ → Lent
@@ -35,9 +34,9 @@ abbrev pub after_close : Lent → Verdict → Lent
 after_close s answer = record { stage = stage_closed s.stage answer; used = s.used; buffer = s.buffer }
 
 -- the bytes of a feed, if it is accepted
-abbrev pub if_accepted : Output → List ℕ → List (List ℕ)
-if_accepted (Written n) bytes = bytes ∷ []
-if_accepted (Refused number index) bytes = []
+abbrev pub if_accepted : Result ℕ Refused → List ℕ → List (List ℕ)
+if_accepted (Ok n) bytes = bytes ∷ []
+if_accepted (Err r) bytes = []
 
 -- What a session has gone through since it was begun in a buffer, feeds and closings, accepted or refused, in any order; and the bytes of the feeds that
 -- were accepted. (Sheet and excerpt alter nothing.)
@@ -73,6 +72,6 @@ unfoldable pub after_feeds : Lent → List (List ℕ) → Lent
 after_feeds s [] = s
 after_feeds s (bytes ∷ feeds) = after_feeds (after_feed s bytes) feeds
 
-unfoldable pub answers_to : Lent → List (List ℕ) → List Output
+unfoldable pub answers_to : Lent → List (List ℕ) → List (Result ℕ Refused)
 answers_to s [] = []
 answers_to s (bytes ∷ feeds) = answer_to s bytes ∷ answers_to (after_feed s bytes) feeds

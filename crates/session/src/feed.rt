@@ -1,71 +1,51 @@
 // The log that is fed: begin writes an empty one, and feed puts a record behind those that are held.
 ghost use Rattle.std.specs.Prelude.{◌≡◌};
-ghost use Rattle.session.specs.Session.{begin_answer, begin_leaves, feed_answer, feed_leaves};
+ghost use Rattle.session.specs.Session.{begin_answer, begin_leaves, Opened, feed_answer, feed_leaves};
 
 use crate::held::stage_refusal;
-use crate::refusal::{SESSION_FULL, SESSION_UNFIT};
 use crate::session::OPEN;
-use buffer::buffer::{BUFFER_TOO_SHORT, copy};
-use buffer::output::Output;
+use buffer::buffer::copy;
 use reader::format::HEADER;
 use reader::header::{write_count, write_header};
-use reader::log::{Extension, check_extension};
+use reader::log::check_extension;
+use record::refusal::{Refusal, Refused};
 
 // Begins a session: writes a log without records.
-pub fn begin(buf: &mut [u8]) -> Output
+pub fn begin(buf: &mut [u8]) -> Result<usize, Refused>
     ensures { (result ≡ begin_answer buf.old) × (buf.new ≡ begin_leaves buf.old) }
 {
     if buf.len() < HEADER {
-        return Output::Refused {
-            number: BUFFER_TOO_SHORT,
-            index: 0,
-        };
+        return Err(Refused::from(Refusal::BufferTooShort));
     }
     write_header(0, buf);
-    Output::Written(HEADER)
+    Ok(HEADER)
+}
+
+// Refusals 25 and 20, as far as they can be told without reading the log that an open session holds.
+fn opened(stage: u32, used: u32, buf: &[u8]) -> Result<(), Refusal>
+    ensures { Opened stage used buf.now result }
+{
+    if stage != OPEN {
+        return stage_refusal(OPEN, stage, used, buf);
+    }
+    if buf.len() < used as usize {
+        return Err(Refusal::SessionUnfit);
+    }
+    Ok(())
 }
 
 // Puts a record behind those that an open session holds.
-pub fn feed(stage: u32, used: u32, buf: &mut [u8], bytes: &[u8]) -> Output
+pub fn feed(stage: u32, used: u32, buf: &mut [u8], bytes: &[u8]) -> Result<usize, Refused>
     ensures { (result ≡ feed_answer stage used buf.old bytes.now)
         × (buf.new ≡ feed_leaves stage used buf.old bytes.now) }
 {
+    opened(stage, used, buf)?;
     let end = used as usize;
-    if stage != OPEN {
-        return Output::Refused {
-            number: stage_refusal(OPEN, stage, used, buf),
-            index: 0,
-        };
+    let records = check_extension(&buf[..end], bytes)?;
+    if buf.len() - end < bytes.len() {
+        return Err(Refused::from(Refusal::BufferTooShort));
     }
-    if buf.len() < end {
-        return Output::Refused {
-            number: SESSION_UNFIT,
-            index: 0,
-        };
-    }
-    match check_extension(&buf[..end], bytes) {
-        Extension::Unreadable => Output::Refused {
-            number: SESSION_UNFIT,
-            index: 0,
-        },
-        Extension::Full => Output::Refused {
-            number: SESSION_FULL,
-            index: 0,
-        },
-        Extension::Faulty { number, records } => Output::Refused {
-            number,
-            index: records,
-        },
-        Extension::Fits(records) => {
-            if buf.len() - end < bytes.len() {
-                return Output::Refused {
-                    number: BUFFER_TOO_SHORT,
-                    index: 0,
-                };
-            }
-            write_count(records + 1, buf);
-            copy(bytes, end, buf);
-            Output::Written(bytes.len())
-        }
-    }
+    write_count(records + 1, buf);
+    copy(bytes, end, buf);
+    Ok(bytes.len())
 }

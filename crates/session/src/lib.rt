@@ -4,5 +4,4 @@
 
 pub mod feed;
 pub mod held;
-mod refusal;
 pub mod session;

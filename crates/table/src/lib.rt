@@ -1,5 +1,4 @@
-// Tables of numbers, with an entry for each record that a log may have, and which of two numbers is the smaller or the larger.
+// Tables of numbers, with an entry for each record that a log may have.
 #![tactic(auto)]
 
-pub mod number;
 pub mod table;

@@ -9,19 +9,12 @@ pub const SIZE: usize = 1024;
 // Clients, operations and codes of calls are below 65,536.
 pub type Table = [u16; SIZE];
 
-// Whether x is in a list. No early exit, so that the loop vectorises.
+// Whether x is in a list.
+#[tactic(auto, using(crate::proofs::Lists::is_in_any))]
 pub fn is_in(x: u32, list: &[u32]) -> bool
     ensures { result ≡ is_in x list.now }
 {
-    let mut found = false;
-    let mut i = 0;
-    while i < list.len() {
-        if list[i] == x {
-            found = true;
-        }
-        i += 1;
-    }
-    found
+    list.contains(&x)
 }
 
 // Puts x behind the entries in use.
@@ -37,9 +30,5 @@ pub fn remove(table: &mut Table, count: usize, index: usize)
     requires { (index < count) × Fits count table.old }
     ensures { (take (count - 1) table.new ≡ without index (take count table.old)) × (length table.new ≡ table_size) }
 {
-    let mut i = index;
-    while i < count - 1 {
-        table[i] = table[i + 1];
-        i += 1;
-    }
+    table.copy_within(index + 1..count, index);
 }

@@ -1,4 +1,3 @@
 pub mod Decimals
 pub mod Examples
 pub mod Putting
-pub mod Repeating

@@ -25,12 +25,8 @@ pub fn put_run(text: &mut [u8], at: usize, end: usize, byte: u8) -> usize
     requires { (at ≤ end) × (end ≤ length text.old) }
     ensures { (result ≡ end) × Puts (replicate (end - at) byte) at text.old result text.new }
 {
-    let mut next = at;
-    while next < end {
-        text[next] = byte;
-        next += 1;
-    }
-    next
+    text[at..end].fill(byte);
+    end
 }
 
 // Writes bytes.

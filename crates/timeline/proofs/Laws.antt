@@ -12,8 +12,9 @@ use borrow.Author.Tests.{lt-ltb, le-ltb, lt-leb, le-leb}
 use Rattle.std.specs.Prelude.{if◌then◌else◌}
 use Rattle.record.specs.Number.{Bytes}
 use Rattle.record.specs.declared.record.Record.{Record}
-use Rattle.buffer.specs.Buffer.{buffer_too_short}
-use Rattle.buffer.specs.declared.output.Output.TheVariants.{Written, Refused}
+use Rattle.std.specs.Prelude.{Ok}
+use Rattle.record.specs.Refusal.{refusing}
+use Rattle.record.specs.declared.refusal.Refusal.TheVariants.{PageTooLong, BufferTooShort}
 use Rattle.text.specs.Text.{space, line_feed, decimal}
 use Rattle.reader.specs.Log as Log
 use Rattle.reader.specs.Log.{operations}
@@ -23,12 +24,12 @@ use Rattle.history.specs.History.{Returned}
 use Rattle.history.specs.Operations.{call_index, history_of}
 use Rattle.history.proofs.Laws.{history_values}
 use Rattle.history.proofs.Positions.{position_returned}
-use Rattle.timeline.specs.Page.{right_aligned, left_aligned, label_of, hash, dot, column_of, columns, page_records, line_bytes, page_max, return_index_of, line_of, page_of, too_many_records, page_answer, page_leaves}
+use Rattle.timeline.specs.Page.{right_aligned, left_aligned, label_of, hash, dot, column_of, columns, page_records, line_bytes, page_max, return_index_of, line_of, page_of, page_answer, page_leaves}
 use Rattle.timeline.proofs.Lines.{joined_length, joined_at, joined_character, column_late, columns_length, left_blank, number_width, label_width, columns_width, fields_length, first_field, first_space, second_field, second_space, from_third}
 
 -- "It refuses with 30 a log of more than 63 records, after the input list and before 24", and leaves the buffer
 pub page_too_long : (records : List Record) → page_records < length records → (out : List ℕ)
-    → (page_answer (Log.readable records) out ≡ Refused too_many_records 0) × (page_leaves (Log.readable records) out ≡ out)
+    → (page_answer (Log.readable records) out ≡ refusing PageTooLong 0) × (page_leaves (Log.readable records) out ≡ out)
 page_too_long records l out = rw (lt-ltb page_records (length records) l) (refl, refl)
 
 -- the page of a readable log of at most 63 records
@@ -119,7 +120,7 @@ module _ {log : List ℕ} {records : List Record} (readable : ReadableLog log re
 
   -- so a page needs that much room, and is written where it is there
   pub page_room : (out : List ℕ) → page_answer (Log.readable records) out
-      ≡ (if ltb (length out) (operations records * line_bytes) then Refused buffer_too_short 0 else Written (operations records * line_bytes))
+      ≡ (if ltb (length out) (operations records * line_bytes) then refusing BufferTooShort 0 else Ok (operations records * line_bytes))
   page_room out = rw (le-ltb page_records (length records) short, page_length) refl
 
   -- "at most 63 records": so the most bytes of a page
@@ -127,5 +128,5 @@ module _ {log : List ℕ} {records : List Record} (readable : ReadableLog log re
   page_short = omega (arith, page_length, few_operations records)
 
   -- which are always enough
-  pub page_enough : (out : List ℕ) → page_max ≤ length out → page_answer (Log.readable records) out ≡ Written (operations records * line_bytes)
+  pub page_enough : (out : List ℕ) → page_max ≤ length out → page_answer (Log.readable records) out ≡ Ok (operations records * line_bytes)
   page_enough out l = page_room out ∙ rw (le-ltb (length out) (operations records * line_bytes) (omega (arith, page_length, page_short))) refl

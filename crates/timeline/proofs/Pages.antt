@@ -10,20 +10,21 @@ use lib.Dec.{ltb}
 use borrow.Author.Tests.{lt-ltb, le-ltb}
 use Rattle.record.specs.Number.{Bytes}
 use Rattle.record.specs.declared.record.Record.{Record}
-use Rattle.buffer.specs.Buffer.{buffer_too_short}
-use Rattle.buffer.specs.declared.output.Output.TheVariants.{Written, Refused}
+use Rattle.std.specs.Prelude.{Result, Ok, Err}
+use Rattle.record.specs.Refusal.{refusing}
+use Rattle.record.specs.declared.refusal.Refusal.TheVariants.{PageTooLong, BufferTooShort}
+use Rattle.record.specs.declared.refusal.Refused.{Refused}
 use Rattle.buffer.proofs.Copying.{put_written}
 use Rattle.text.specs.Text.{Puts}
 use Rattle.reader.specs.Log.{read_log, checked, operations}
-use Rattle.reader.specs.declared.log.Checked.{Checked}
-use Rattle.reader.specs.declared.log.Checked.TheVariants as check
+use Rattle.reader.specs.declared.log.Counts.{Counts}
 use Rattle.reader.specs.Readable.{ReadableLog}
 use Rattle.reader.proofs.Laws.{checked_refused, few_operations}
 use Rattle.history.specs.Operations.{call_index, history_of}
 use Rattle.history.specs.Table.{kind_at, value_at, TableOf}
 use Rattle.history.proofs.Along.{whole_readable}
 use Rattle.history.proofs.Numbering.{call_of_lem, return_behind}
-use Rattle.timeline.specs.Page.{page_records, line_bytes, return_index_of, line_of, page_of, too_many_records, page_answer, page_leaves}
+use Rattle.timeline.specs.Page.{page_records, line_bytes, return_index_of, line_of, page_of, page_answer, page_leaves}
 use Rattle.timeline.specs.Spans.{end_by, Spanned, SpansAre, Drawable, left_part, right_part, lines_in}
 use Rattle.timeline.proofs.Lines.{joined_same, columns_runs, line_parts}
 use Rattle.timeline.proofs.Laws.{page_too_long, page_length}
@@ -55,8 +56,8 @@ span_lies records o h = go (dec_lt (return_index_of records o) (length records))
     })
 
 -- a log that is refused has no page
-pub log_refused : (log out : List ℕ) {answer : Checked} {number index : ℕ} → answer ≡ checked (read_log log) → answer ≡ check.Refused number index
-    → (Refused number index ≡ page_answer (read_log log) out) × (out ≡ page_leaves (read_log log) out)
+pub log_refused : (log out : List ℕ) {answer : Result Counts Refused} {r : Refused} → answer ≡ checked (read_log log) → answer ≡ Err r
+    → (Err r ≡ page_answer (read_log log) out) × (out ≡ page_leaves (read_log log) out)
 log_refused log out e f = rw (checked_refused (read_log log) (sym e ∙ f)) (refl, refl)
 
 -- a log that is readable, and the table of its operations
@@ -68,7 +69,7 @@ module _ {log : List ℕ} {n m : ℕ} {table : List ℕ} (known : TableOf log n 
   few = omega (arith, few_operations known.whole.records, known.whole.counted, known.counted)
 
   -- a log that is too long has no page
-  pub page_refused : (out : List ℕ) → page_records < n → (Refused too_many_records 0 ≡ page_answer (read_log log) out) × (out ≡ page_leaves (read_log log) out)
+  pub page_refused : (out : List ℕ) → page_records < n → (refusing PageTooLong 0 ≡ page_answer (read_log log) out) × (out ≡ page_leaves (read_log log) out)
   page_refused out l =
       let refused = page_too_long known.whole.records (omega (arith, known.whole.counted)) out in
       rw known.whole.reads (sym refused.0, sym refused.1)
@@ -81,12 +82,12 @@ module _ {log : List ℕ} {n m : ℕ} {table : List ℕ} (known : TableOf log n 
     in_page = le-ltb page_records (length known.whole.records) (omega (arith, known.whole.counted))
 
     -- nor is a page written into a buffer that is too short
-    pub page_lacks_room : length out < m * line_bytes → (Refused buffer_too_short 0 ≡ page_answer (read_log log) out) × (out ≡ page_leaves (read_log log) out)
+    pub page_lacks_room : length out < m * line_bytes → (refusing BufferTooShort 0 ≡ page_answer (read_log log) out) × (out ≡ page_leaves (read_log log) out)
     page_lacks_room l = rw (known.whole.reads, in_page, lt-ltb (length out) (length (page_of known.whole.records)) (omega (arith, long))) (refl, refl)
 
     -- what is put at the front of one that is long enough is the answer
     pub page_written : m * line_bytes ≤ length out → {next : ℕ} {out' : List ℕ} → Puts (page_of known.whole.records) 0 out next out'
-        → (Written next ≡ page_answer (read_log log) out) × (out' ≡ page_leaves (read_log log) out)
+        → (Ok next ≡ page_answer (read_log log) out) × (out' ≡ page_leaves (read_log log) out)
     page_written l {next} puts =
         let room : length (page_of known.whole.records) ≤ length out = omega (arith, long) in
         let all : next ≡ length (page_of known.whole.records) = omega (arith, puts.ends) in (

@@ -7,7 +7,7 @@ use lib.ListN.{length, replicate, length-append, length-replicate, replicate-app
 use lib.Dec.{eqb}
 use mathlib.Core.Bool.{Bool}
 use Rattle.std.specs.Prelude.{if◌then◌else◌}
-use borrow.Author.Tests.{eq-eqb, ne_eqb}
+use borrow.Author.Tests.{ne_eqb}
 use Rattle.text.specs.Text.{space, line_feed, decimal, Puts}
 use Rattle.text.proofs.Putting.{puts_more, puts_same}
 use Rattle.history.specs.History.{empty_remove, no_kind}
@@ -21,14 +21,8 @@ label_if kind value empty pending = letter_of kind ∷ (if empty then [] else if
 label_is : (kind value : ℕ) {empty pending : Bool} → eqb kind empty_remove ≡ empty → eqb kind no_kind ≡ pending → label_of kind value ≡ label_if kind value empty pending
 label_is kind value {pending = pending} e f = ap (label_if kind value (eqb kind empty_remove)) f ∙ ap (λ empty. label_if kind value empty pending) e
 
--- a label: the letter and, unless it is that of an empty remove or of one that has not returned, the value
+-- a label of a letter and a value
 module _ (kind value : ℕ) {letter : ℕ} (e : letter ≡ letter_of kind) {at mid : ℕ} {text text' : List ℕ} (p : Puts (letter ∷ []) at text mid text') where
-  pub label_empty : kind ≡ empty_remove → Puts (label_of kind value) at text mid text'
-  label_empty z = puts_same (label_is kind value (eq-eqb kind empty_remove z) refl ∙ ap (λ l. l ∷ []) (sym e)) p
-
-  pub label_pending : (kind ≡ empty_remove → ⊥) → kind ≡ no_kind → Puts (label_of kind value) at text mid text'
-  label_pending z n = puts_same (label_is kind value (ne_eqb kind empty_remove z) (eq-eqb kind no_kind n) ∙ ap (λ l. l ∷ []) (sym e)) p
-
   pub label_value : (kind ≡ empty_remove → ⊥) → (kind ≡ no_kind → ⊥) → at ≤ length text → {next : ℕ} {text'' : List ℕ} → Puts (decimal value) mid text' next text''
       → Puts (label_of kind value) at text next text''
   label_value z n l q = puts_same (label_is kind value (ne_eqb kind empty_remove z) (ne_eqb kind no_kind n) ∙ ap (λ l. l ∷ decimal value) (sym e)) (puts_more p q l)

@@ -2,35 +2,34 @@
 use Prim.Native.Nat.{ℕ, ◌+◌, ◌≤◌, ◌<◌}
 use native.Mathlib.Omega.{arith}
 use native.Mathlib.Decide.{dec_lt, ℕ_discrete}
-use mathlib.Core.Path.{◌≡◌, refl, sym, ◌∙◌}
+use mathlib.Core.Path.{◌≡◌, refl, sym, ap, ◌∙◌}
 use mathlib.Core.List.{List}
 use lib.ListN.{length, get_or, set, take, length-set}
 use lib.Seq.{get_or-set_same, get_or-set_other, take-length}
 use borrow.Author.Tests.{lt-ltb, le-ltb, eq-eqb, ne_eqb}
-use Rattle.record.specs.Record.{decode_at}
 use Rattle.record.specs.declared.record.Record.{Record}
-use Rattle.record.specs.declared.record.Decoded.{Decoded}
-use Rattle.record.specs.declared.record.Decoded.TheVariants.{Found}
-use Rattle.map.proofs.Laws.{new_keys, new_chains}
-use Rattle.reader.specs.Log.{header_length, is_call, operations}
+use Rattle.reader.specs.Log.{is_call, operations}
 use Rattle.reader.specs.Readable.{record_of, Regular}
 use Rattle.reader.proofs.Laws.{few_operations}
 use Rattle.history.specs.Operations.{call_index, operation_at}
-use Rattle.history.specs.Owners.{Owned}
-use Rattle.history.specs.Table.{Whole}
-use Rattle.history.specs.declared.owners.Owner.{Owner}
-use Rattle.history.proofs.Along.{whole_one}
+use Rattle.history.specs.Steps.{StepOf}
+use Rattle.history.specs.Walks.{Stepped}
+use Rattle.history.specs.declared.walk.Step.{Step}
+use Rattle.history.specs.declared.walk.Walk.{Walk}
+use Rattle.history.proofs.Along.{whole_readable}
 use Rattle.reader.proofs.Events.{is_call_small}
 use Rattle.history.proofs.Numbering.{rank_step, ranks_below, return_behind}
 use Rattle.history.proofs.Owning.{operation_called, owner_called, owner_returned, returned_by, operation_known}
-use Rattle.history.proofs.Walking.{Walking, walking_starts, walking_regular, walking_below, walking_here, walking_owner, walking_next}
+use Rattle.history.proofs.Walking.{Keeping, keeping_whole, keeping_ends, keeping_told, keeping_next}
 use Rattle.timeline.specs.Page.{page_records, return_index_of}
 use Rattle.timeline.specs.Spans.{end_by, Spanned, SpanNoted, SpansAre}
 
 -- one record more, which is operation o's
 module _ {records : List Record} (regular : Regular records) {n : ℕ} (h : n < length records) (short : length records ≤ page_records)
-    {count o : ℕ} (counted : count ≡ operations (take n records)) (is : o ≡ operation_at records n)
-    {starts ends : List ℕ} (spanned : Spanned records n count starts ends) where
+    {o : ℕ} (is : o ≡ operation_at records n) {starts ends : List ℕ} (spanned : Spanned records n (operations (take n records)) starts ends) where
+  abbrev count : ℕ
+  count = operations (take n records)
+
   pub owner_small : o < page_records
   owner_small = omega (arith, operation_known regular n h, few_operations records)
 
@@ -88,82 +87,47 @@ module _ {records : List Record} (regular : Regular records) {n : ℕ} (h : n < 
           rw (lt-ltb (return_index_of records o) (n + 1) (omega arith)) (omega arith)
 
 -- one record more, whichever of the two it is
-pub spanned_more : {records : List Record} → Regular records → {n : ℕ} → n < length records → length records ≤ page_records
-    → {count count' o : ℕ} → count ≡ operations (take n records) → o ≡ operation_at records n → count' ≡ operations (take (n + 1) records)
-    → {starts ends starts' ends' : List ℕ} → Spanned records n count starts ends
-    → SpanNoted (record_of records n).event o n (length records) starts ends starts' ends' → Spanned records (n + 1) count' starts' ends'
-spanned_more {records} regular {n} h short {count} {count'} counted is more {starts' = starts'} {ends' = ends'} spanned noted =
-    go (ℕ_discrete (is_call (record_of records n).event) 0)
+pub spanned_more : {records : List Record} → Regular records → length records ≤ page_records → {step : Step} → StepOf records step
+    → {starts ends starts' ends' : List ℕ} → Spanned records step.index (operations (take step.index records)) starts ends
+    → SpanNoted step (length records) starts ends starts' ends'
+    → Spanned records (step.index + 1) (operations (take (step.index + 1) records)) starts' ends'
+spanned_more {records} regular short {step} told {starts' = starts'} {ends' = ends'} spanned noted = go (ℕ_discrete (is_call step.record.event) 0)
   where
-    step : count' ≡ count + is_call (record_of records n).event
-    step = omega (arith, rank_step records n h)
+    sort : is_call (record_of records step.index).event ≡ is_call step.record.event
+    sort = ap (λ r. is_call r.event) told.here
 
-    go : Dec (is_call (record_of records n).event ≡ 0) → Spanned records (n + 1) count' starts' ends'
+    go : Dec (is_call step.record.event ≡ 0) → Spanned records (step.index + 1) (operations (take (step.index + 1) records)) starts' ends'
     go (yes c) =
-        let ended = eq-eqb (is_call (record_of records n).event) 0 c in
-        let same : count' ≡ count = omega (arith, step) in
-        rw (same, rw ended at noted.starts_are, rw ended at noted.ends_are) (spanned_return regular h short counted is spanned c)
+        let ended = eq-eqb (is_call step.record.event) 0 c in
+        let same : operations (take (step.index + 1) records) ≡ operations (take step.index records) = omega (arith, rank_step records step.index told.there, sort) in
+        rw (same, rw ended at noted.starts_are, rw ended at noted.ends_are) (spanned_return regular told.there short told.owner spanned (sort ∙ c))
     go (no d) =
-        let begun = ne_eqb (is_call (record_of records n).event) 0 d in
-        let call : is_call (record_of records n).event ≡ 1 = omega (arith, is_call_small (record_of records n).event) in
-        let one : count' ≡ count + 1 = omega (arith, step) in
-        rw (one, rw begun at noted.starts_are, rw begun at noted.ends_are) (spanned_call regular h short counted is spanned call)
+        let begun = ne_eqb (is_call step.record.event) 0 d in
+        let call : is_call step.record.event ≡ 1 = omega (arith, is_call_small step.record.event) in
+        let one : operations (take (step.index + 1) records) ≡ operations (take step.index records) + 1 = omega (arith, rank_step records step.index told.there, sort) in
+        rw (one, rw begun at noted.starts_are, rw begun at noted.ends_are) (spanned_call regular told.there short told.owner spanned (sort ∙ call))
 
--- all records
-spanned_all : {records : List Record} {n count : ℕ} {starts ends : List ℕ} → Spanned records n count starts ends → n ≡ length records
-    → count ≡ operations (take n records) → Spanned records (length records) (operations records) starts ends
-spanned_all {records} {count = count} spanned last counted =
-    let called : count ≡ operations records = rw (last, take-length records) at counted in
-    rw (last, called) at spanned
+-- What the loop of `span` keeps: the spans of the operations that the first n records call are noted.
+abbrev pub Spanning : List ℕ → List ℕ → List Record → ℕ → Type 0
+Spanning starts ends records n = Spanned records n (operations (take n records)) starts ends
 
--- The loop of `span` has come to record i.
-pub record Spanning (log : List ℕ) (end : ℕ) (callers chains starts ends : List ℕ) (at count i : ℕ) : Type 0 where
-  pub walking : Walking log end callers chains at count i
-  -- the log is short
-  pub short : end ≤ page_records
-  -- the spans of the operations called before it are noted
-  pub spanned : Spanned walking.whole.records i count starts ends
+pub spanning_starts : {starts ends : List ℕ} → length starts ≡ page_records → length ends ≡ page_records → (records : List Record) → Spanning starts ends records 0
+unfolding operations
+spanning_starts s e records = record { starts_sized = s; ends_sized = e; starts_are = λ o l. absurd (omega arith); ends_are = λ o l. absurd (omega arith) }
 
-pub spanning_starts : {log starts ends : List ℕ} {end : ℕ} → Whole log end → end ≤ page_records → length starts ≡ page_records → length ends ≡ page_records
-    → Spanning log end new_keys new_chains starts ends header_length 0 0
-spanning_starts whole short s e = record {
-  walking = walking_starts whole;
-  short = short;
-  spanned = record { starts_sized = s; ends_sized = e; starts_are = λ o l. absurd (omega arith); ends_are = λ o l. absurd (omega arith) };
-}
+module _ {log starts ends : List ℕ} {size : ℕ} {walk : Walk} (spanning : Keeping log size (Spanning starts ends) walk) where
+  pub spanning_ends : walk.records ≤ walk.index → SpansAre log starts ends
+  spanning_ends l = record { spanned = λ records reads. rw (take-length records) at (keeping_ends spanning l records reads) }
 
-module _ {log callers chains starts ends : List ℕ} {end at count i : ℕ} (spanning : Spanning log end callers chains starts ends at count i) where
-  -- the records of the log
-  abbrev all : List Record
-  all = spanning.walking.whole.records
-
-  pub spanning_ends : end ≤ i → SpansAre log starts ends
-  spanning_ends l =
-      let last : i ≡ length all = omega (arith, spanning.walking.along.within, spanning.walking.whole.counted) in
-      record { spanned = λ records reads. rw (whole_one spanning.walking.whole records reads) at (spanned_all spanning.spanned last spanning.walking.traced.counted) }
-
-  module _ (l : i < end) {r : Record} {next : ℕ} {d : Decoded} (e : d ≡ decode_at log at) (f : d ≡ Found r next)
-      {owner : Owner} {callers' chains' : List ℕ} (owned : Owned r count callers chains owner callers' chains') where
-    regular : Regular all
-    regular = walking_regular spanning.walking
-
-    short_log : length all ≤ page_records
-    short_log = omega (arith, spanning.walking.whole.counted, spanning.short)
-
+  module _ (short : size ≤ page_records) {step : Step} {walk' : Walk} (stepped : Stepped walk step walk') where
     -- the record's operation has an entry
-    pub spanning_small : (owner.operation < page_records) × (i < page_records)
-    spanning_small = (
-      owner_small regular (walking_below spanning.walking l) short_log spanning.walking.traced.counted (walking_owner spanning.walking l e f owned) spanning.spanned,
-      omega (arith, spanning.short),
-    )
+    pub spanning_small : (step.operation < page_records) × (step.index < page_records)
+    spanning_small =
+        let whole = keeping_whole spanning in
+        let told = (keeping_told spanning stepped whole.records whole.reads).0 in
+        let regular = (whole_readable whole).partial.regular in
+        (omega (arith, operation_known regular step.index told.there, few_operations whole.records, told.owner, whole.counted), omega (arith, told.there, whole.counted))
 
-    pub spanning_next : {starts' ends' : List ℕ} → SpanNoted r.event owner.operation i end starts ends starts' ends'
-        → Spanning log end callers' chains' starts' ends' next owner.count (i + 1)
-    spanning_next noted = record {
-      walking = walking_next spanning.walking l e f owned;
-      short = spanning.short;
-      spanned =
-          spanned_more regular (walking_below spanning.walking l) short_log spanning.walking.traced.counted (walking_owner spanning.walking l e f owned)
-          (walking_next spanning.walking l e f owned).traced.counted spanning.spanned
-          (rw (walking_here spanning.walking l e f owned, spanning.walking.whole.counted) noted);
-    }
+    pub spanning_next : {starts' ends' : List ℕ} → SpanNoted step size starts ends starts' ends' → Keeping log size (Spanning starts' ends') walk'
+    spanning_next noted = keeping_next spanning stepped (λ records reads regular counted told before.
+        spanned_more regular (omega (arith, counted)) told before (rw (← counted) at noted))

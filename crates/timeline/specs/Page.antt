@@ -1,11 +1,12 @@
 -- The page of a log. Document 02, change 1: "A readable log of at most 63 records is laid out as one line per operation, in number
 -- order, each 80 characters and a line feed."
-use Rattle.std.specs.Prelude.{ℕ, zero, suc, ◌-◌, ◌&&◌, List, [], ◌∷◌, ◌++◌, length, replicate, ltb, leb, eqb, if◌then◌else◌}
+use Rattle.std.specs.Prelude.{ℕ, zero, suc, ◌-◌, ◌&&◌, List, Result, [], ◌∷◌, ◌++◌, length, replicate, ltb, leb, eqb, if◌then◌else◌}
 use Rattle.record.specs.declared.record.Record.{Record}
 use Rattle.buffer.specs.Buffer.{written}
 use Rattle.buffer.specs.Output.{writing}
-use Rattle.buffer.specs.declared.output.Output.{Output}
-use Rattle.buffer.specs.declared.output.Output.TheVariants.{Refused}
+use Rattle.record.specs.declared.refusal.Refused.{Refused}
+use Rattle.record.specs.declared.refusal.Refusal.TheVariants.{PageTooLong}
+use Rattle.record.specs.Refusal.{refusing}
 use Rattle.text.specs.Text.{space, line_feed, decimal}
 use Rattle.reader.specs.Log.{Reading, readable, refused, operations}
 use Rattle.history.specs.History.{add, empty_remove, no_kind}
@@ -83,15 +84,12 @@ line_of records o =
 abbrev pub page_of : List Record → List ℕ
 page_of records = joined (line_of records) (operations records)
 
--- "It refuses with 30 a log of more than 63 records, after the input list and before 24."
-abbrev pub too_many_records : ℕ
-too_many_records = 30
-
--- the page of a log, as it was read: the log's refusal; 30; or the page is written
-abbrev pub page_answer : Reading → List ℕ → Output
-page_answer (refused number index) out = Refused number index
-page_answer (readable records) out = if ltb page_records (length records) then Refused too_many_records 0 else writing (page_of records) out
+-- the page of a log, as it was read: the log's refusal; or "It refuses with 30 a log of more than 63 records, after the input list and before 24"; or
+-- the page is written
+abbrev pub page_answer : Reading → List ℕ → Result ℕ Refused
+page_answer (refused refusal index) out = refusing refusal index
+page_answer (readable records) out = if ltb page_records (length records) then refusing PageTooLong 0 else writing (page_of records) out
 
 abbrev pub page_leaves : Reading → List ℕ → List ℕ
-page_leaves (refused number index) out = out
+page_leaves (refused refusal index) out = out
 page_leaves (readable records) out = if ltb page_records (length records) then out else written (page_of records) out

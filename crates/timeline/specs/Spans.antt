@@ -1,12 +1,12 @@
 -- What the code keeps of the operations of a short log: where the span of each begins, and where it ends. What a page is can be
 -- understood without this file.
 use Rattle.std.specs.Prelude.{ℕ, ◌+◌, ◌-◌, ◌≤◌, ◌<◌, ◌≡◌, List, [], ◌∷◌, ◌++◌, length, get_or, set, replicate, ltb, eqb, if◌then◌else◌}
-use Rattle.record.specs.declared.record.Event.{Event}
 use Rattle.record.specs.declared.record.Record.{Record}
 use Rattle.text.specs.Text.{space, line_feed, decimal}
 use Rattle.reader.specs.Log.{readable, read_log, is_call, operations}
 use Rattle.history.specs.Operations.{call_index}
 use Rattle.history.specs.Table.{kind_at, value_at}
+use Rattle.history.specs.declared.walk.Step.{Step}
 use Rattle.timeline.specs.Page.{right_aligned, left_aligned, joined, label_of, hash, dot, page_records, return_index_of}
 
 -- where the span of an operation ends, by the first n records: after its return, or after the last record
@@ -21,10 +21,10 @@ pub record Spanned (records : List Record) (n count : ℕ) (starts ends : List �
   pub starts_are : (o : ℕ) → o < count → get_or starts o 0 ≡ call_index records o
   pub ends_are : (o : ℕ) → o < count → get_or ends o 0 ≡ end_by records n o
 
--- A record of operation o with this index and event is noted, of a log of n records: a call begins the span, and a return ends it.
-pub record SpanNoted (event : Event) (o index n : ℕ) (starts ends starts' ends' : List ℕ) : Type 0 where
-  pub starts_are : starts' ≡ (if eqb (is_call event) 0 then starts else set starts o index)
-  pub ends_are : ends' ≡ set ends o (if eqb (is_call event) 0 then index + 1 else n)
+-- What a step tells is noted, of a log of n records: a call begins the span of its operation, and a return ends it.
+pub record SpanNoted (step : Step) (n : ℕ) (starts ends starts' ends' : List ℕ) : Type 0 where
+  pub starts_are : starts' ≡ (if eqb (is_call step.record.event) 0 then starts else set starts step.operation step.index)
+  pub ends_are : ends' ≡ set ends step.operation (if eqb (is_call step.record.event) 0 then step.index + 1 else n)
 
 -- The spans of all operations of a log are noted.
 pub record SpansAre (log starts ends : List ℕ) : Type 0 where

@@ -8,13 +8,8 @@ ghost use Rattle.timeline.specs.Spans.{lines_in, Drawable};
 
 use crate::line::{put_columns, put_operation};
 use crate::spans::{ByOperation, PAGE_RECORDS, span};
-use buffer::buffer::BUFFER_TOO_SHORT;
-use buffer::output::Output;
 use history::operations::{Operations, TABLE, kind_of, tabulate, value_of};
-use reader::log::Checked;
-
-// The number of the refusal of a log that is too long for a page.
-const TOO_MANY_RECORDS: u32 = 30;
+use record::refusal::{Refusal, Refused};
 
 // The bytes of a line, with its line feed.
 const LINE: usize = 81;
@@ -33,11 +28,9 @@ fn put_lines(
         text.old result text.new }
 {
     let mut at = 0;
-    let mut o = 0;
-    while o < operations {
+    for o in 0..operations {
         let right = put_operation(text, at, o, kind_of(table, o), value_of(table, o));
         at = put_columns(text, right, starts[o], ends[o], records);
-        o += 1;
     }
     at
 }
@@ -49,40 +42,29 @@ fn write_page(
     records: usize,
     operations: usize,
     out: &mut [u8],
-) -> Output
+) -> Result<usize, Refused>
     requires { TableOf log.now records operations table.now }
     ensures { (result ≡ page_answer (read_log log.now) out.old)
         × (out.new ≡ page_leaves (read_log log.now) out.old) }
 {
     if PAGE_RECORDS < records {
-        return Output::Refused {
-            number: TOO_MANY_RECORDS,
-            index: 0,
-        };
+        return Err(Refused::from(Refusal::PageTooLong));
     }
     if out.len() < operations * LINE {
-        return Output::Refused {
-            number: BUFFER_TOO_SHORT,
-            index: 0,
-        };
+        return Err(Refused::from(Refusal::BufferTooShort));
     }
     let mut starts = [0usize; PAGE_RECORDS];
     let mut ends = [0usize; PAGE_RECORDS];
     span(log, records, &mut starts, &mut ends);
-    Output::Written(put_lines(table, &starts, &ends, records, operations, out))
+    Ok(put_lines(table, &starts, &ends, records, operations, out))
 }
 
 // Writes the page of a log.
-pub fn page(log: &[u8], out: &mut [u8]) -> Output
+pub fn page(log: &[u8], out: &mut [u8]) -> Result<usize, Refused>
     ensures { (result ≡ page_answer (read_log log.now) out.old)
         × (out.new ≡ page_leaves (read_log log.now) out.old) }
 {
     let mut table = [0u32; TABLE];
-    match tabulate(log, &mut table) {
-        Checked::Refused { number, index } => Output::Refused { number, index },
-        Checked::Readable {
-            records,
-            operations,
-        } => write_page(log, &table, records, operations, out),
-    }
+    let counts = tabulate(log, &mut table)?;
+    write_page(log, &table, counts.records, counts.operations, out)
 }

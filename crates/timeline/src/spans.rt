@@ -4,10 +4,8 @@ ghost use Rattle.history.specs.Table.{Whole};
 ghost use Rattle.timeline.specs.Page.{page_records};
 ghost use Rattle.timeline.specs.Spans.{SpanNoted, SpansAre};
 
-use history::owners::{is_call, owner_of};
-use map::map::{CHAINS, KEYS};
-use reader::format::HEADER;
-use record::record::{Decoded, Event, decode_at};
+use history::owners::is_call;
+use history::walk::{Step, Walk};
 
 // The most records of a log that has a page.
 pub const PAGE_RECORDS: usize = 63;
@@ -15,25 +13,19 @@ pub const PAGE_RECORDS: usize = 63;
 // An index for each operation of such a log.
 pub type ByOperation = [usize; PAGE_RECORDS];
 
-// Notes a record of operation o, which has this index. A call begins the span of its operation, which runs to the last record unless a
-// return ends it.
-fn note_span(
-    event: Event,
-    o: usize,
-    index: usize,
-    records: usize,
-    starts: &mut ByOperation,
-    ends: &mut ByOperation,
-)
-    requires { (o < page_records) × (index < page_records) }
-    ensures { SpanNoted event o index records starts.old ends.old starts.new ends.new }
+// Notes the record of a step. A call begins the span of its operation, which runs to the last record unless a return ends it.
+fn note_span(step: Step, records: usize, starts: &mut ByOperation, ends: &mut ByOperation)
+    requires { (step.operation < page_records) × (step.index < page_records) }
+    ensures { SpanNoted step records starts.old ends.old starts.new ends.new }
 {
-    if is_call(event) == 0 {
+    let o = step.operation;
+    let index = step.index;
+    if is_call(step.record.event) {
+        starts[o] = index;
+        ends[o] = records;
+    } else {
         ends[o] = index + 1;
-        return;
     }
-    starts[o] = index;
-    ends[o] = records;
 }
 
 // Finds where the span of each operation of a readable log begins and ends.
@@ -42,25 +34,8 @@ pub(crate) fn span(log: &[u8], records: usize, starts: &mut ByOperation, ends: &
         × (length starts.old ≡ page_records) × (length ends.old ≡ page_records) }
     ensures { SpansAre log.now starts.new ends.new }
 {
-    let mut callers = [0u32; KEYS];
-    let mut chains = [0u16; CHAINS];
-    let mut at = HEADER;
-    let mut count = 0;
-    let mut i = 0;
-    while i < records {
-        match decode_at(log, at) {
-            // A readable log has a record here.
-            Decoded::Malformed(_) => {
-                return;
-            }
-            Decoded::Found { record, next } => {
-                let event = record.event;
-                let owner = owner_of(record, count, &mut callers, &mut chains);
-                note_span(event, owner.operation, i, records, starts, ends);
-                count = owner.count;
-                at = next;
-            }
-        }
-        i += 1;
+    let mut walk = Walk::new(log, records);
+    while let Some(step) = walk.next() {
+        note_span(step, records, starts, ends);
     }
 }

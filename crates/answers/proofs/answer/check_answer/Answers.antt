@@ -5,7 +5,7 @@ use Rattle.answers.specs.Answer.{check_answer}
 use Rattle.answers.proofs.answer.check_answer.Goals as goal
 
 pub refuse-requires : goal.refuse-requires
-refuse-requires c = let small = rw c.in-Refused.is at c.requires in omega (arith, small.1)
+refuse-requires c = let small = rw c.in-Err.is at c.requires in omega (arith, small)
 
-pub returns-in-Refused : goal.returns-in-Refused
-returns-in-Refused c = c.refuse.ensures ∙ ap check_answer (sym c.in-Refused.is)
+pub returns-in-Err : goal.returns-in-Err
+returns-in-Err c = c.refuse.ensures ∙ ap check_answer (sym c.in-Err.is)

@@ -10,15 +10,15 @@ pub output_answer-answer-requires : goal.output_answer-answer-requires
 output_answer-answer-requires c = rw c.begin-output.ensures.0 (writing_small empty_log c.args.buf.now (omega arith))
 
 pub overflow_cast-result : goal.overflow_cast-result
-overflow_cast-result c = let small = rw (sym c.begin-output.ensures.0 ∙ c.in-Written.is) at (writing_small empty_log c.args.buf.now (omega arith)) in
+overflow_cast-result c = let small = rw (sym c.begin-output.ensures.0 ∙ c.in-Ok.is) at (writing_small empty_log c.args.buf.now (omega arith)) in
     omega (arith, small)
 
-pub returns-in-Written : goal.returns-in-Written
-returns-in-Written c = let begun = c.begin-output.ensures in
-    let is = sym c.in-Written.is ∙ begun.0 in
+pub returns-in-Ok : goal.returns-in-Ok
+returns-in-Ok c = let begun = c.begin-output.ensures in
+    let is = sym c.in-Ok.is ∙ begun.0 in
     record { answers = c.output_answer-answer.ensures ∙ ap output_answer begun.0; stage_is = ap (stage_begun _) is; used_is = ap (used_begun _) is; leaves = begun.1 }
 
-pub returns-in-Refused : goal.returns-in-Refused
-returns-in-Refused c = let begun = c.begin-output.ensures in
-    let is = sym c.in-Refused.is ∙ begun.0 in
+pub returns-in-Err : goal.returns-in-Err
+returns-in-Err c = let begun = c.begin-output.ensures in
+    let is = sym c.in-Err.is ∙ begun.0 in
     record { answers = c.output_answer-answer.ensures ∙ ap output_answer begun.0; stage_is = ap (stage_begun _) is; used_is = ap (used_begun _) is; leaves = begun.1 }

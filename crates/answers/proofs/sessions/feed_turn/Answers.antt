@@ -13,16 +13,16 @@ output_answer-answer-requires c = let a = c.args in
 
 pub overflow_cast-result : goal.overflow_cast-result
 overflow_cast-result c = let a = c.args in
-    omega (arith, (accepted_small a.stage a.used a.buf.now a.bytes.now (sym c.in-Written.is ∙ c.feed-output.ensures.0)).0)
+    omega (arith, (accepted_small a.stage a.used a.buf.now a.bytes.now (sym c.in-Ok.is ∙ c.feed-output.ensures.0)).0)
 
 pub overflow_add-result : goal.overflow_add-result
 overflow_add-result c = let a = c.args in
-    let (size, used) = accepted_small a.stage a.used a.buf.now a.bytes.now (sym c.in-Written.is ∙ c.feed-output.ensures.0) in omega (arith, size, used)
+    let (size, used) = accepted_small a.stage a.used a.buf.now a.bytes.now (sym c.in-Ok.is ∙ c.feed-output.ensures.0) in omega (arith, size, used)
 
-pub returns-in-Written : goal.returns-in-Written
-returns-in-Written c = let fed = c.feed-output.ensures in
-    record { answers = c.output_answer-answer.ensures ∙ ap output_answer fed.0; stage_is = refl; used_is = ap (used_fed _) (sym c.in-Written.is ∙ fed.0); leaves = fed.1 }
+pub returns-in-Ok : goal.returns-in-Ok
+returns-in-Ok c = let fed = c.feed-output.ensures in
+    record { answers = c.output_answer-answer.ensures ∙ ap output_answer fed.0; stage_is = refl; used_is = ap (used_fed _) (sym c.in-Ok.is ∙ fed.0); leaves = fed.1 }
 
-pub returns-in-Refused : goal.returns-in-Refused
-returns-in-Refused c = let fed = c.feed-output.ensures in
-    record { answers = c.output_answer-answer.ensures ∙ ap output_answer fed.0; stage_is = refl; used_is = ap (used_fed _) (sym c.in-Refused.is ∙ fed.0); leaves = fed.1 }
+pub returns-in-Err : goal.returns-in-Err
+returns-in-Err c = let fed = c.feed-output.ensures in
+    record { answers = c.output_answer-answer.ensures ∙ ap output_answer fed.0; stage_is = refl; used_is = ap (used_fed _) (sym c.in-Err.is ∙ fed.0); leaves = fed.1 }

@@ -1,4 +1,3 @@
-use Prim.Native.Nat.{◌-◌}
 use mathlib.Core.Path.{◌≡◌}
 use Rattle.history.specs.History.{no_kind}
 use Rattle.history.specs.Table.{kind_at}
@@ -8,6 +7,3 @@ use Rattle.fates.proofs.fates.pending_remove.Given as given
 -- `pending_remove` meets its contract. The loop's invariant is `Unfound`: every operation below o has a kind.
 abbrev pub invariant-loop-o : given.invariant-loop-o
 invariant-loop-o l = Unfound (λ p. kind_at l.table p ≡ no_kind) l.count l.o
-
-abbrev pub decreases-loop-o : given.decreases-loop-o
-decreases-loop-o l = l.count - l.o

@@ -3,9 +3,8 @@ use Rattle.history.proofs.Looking.{Looking}
 use Rattle.history.proofs.batches.batch_of.Given as given
 
 -- `batch_of` meets its contract. The loop's invariant is `Looking`: the records before `stop` have no higher tick than the one whose batch it is.
--- That there is no record where one is looked at would go against the log being readable.
 abbrev pub invariant-loop-stop : given.invariant-loop-stop
-invariant-loop-stop l = Looking l.log l.index l.end l.count l.tick l.at l.stop l.calls
+invariant-loop-stop l = Looking l.log l.step.index l.end l.step.called l.tick l.at l.stop l.calls
 
 abbrev pub decreases-loop-stop : given.decreases-loop-stop
 decreases-loop-stop l = l.end - l.stop

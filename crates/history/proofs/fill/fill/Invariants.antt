@@ -1,11 +1,11 @@
 use Prim.Native.Nat.{◌-◌}
+use Rattle.history.proofs.Walking.{Keeping}
 use Rattle.history.proofs.Reaching.{Reached}
 use Rattle.history.proofs.fill.fill.Given as given
 
--- `fill` meets its contract. The loop's invariant is `Reached`: the tables hold the first i records, and the next one stands at `at`.
--- That there is no record there would go against the log being readable.
-abbrev pub invariant-loop-i : given.invariant-loop-i
-invariant-loop-i l = Reached l.log l.records l.initial.table l.callers l.chains l.table l.at l.count l.batch l.i
+-- `fill` meets its contract. What the loop keeps of the records before that of the walk is `Reached`: the table holds them.
+abbrev pub invariant-loop-step : given.invariant-loop-step
+invariant-loop-step l = Keeping l.log l.records (Reached l.initial.table l.table l.batch) l.walk
 
-abbrev pub decreases-loop-i : given.decreases-loop-i
-decreases-loop-i l = l.records - l.i
+abbrev pub decreases-loop-step : given.decreases-loop-step
+decreases-loop-step l = l.walk.records - l.walk.index

@@ -1,23 +1,13 @@
 -- `write_sheet` meets its contract. The invariant is `Listing`: the first i numbers stand after the header.
 use native.Mathlib.Omega.{arith}
 use mathlib.Core.List.{[], ◌∷◌}
-use lib.ListN.{length-set}
 use lib.Seq.{length-sets}
 use Rattle.history.specs.Sheet.{sheet_version}
-use Rattle.history.proofs.Writing.{listing_starts, listing_sized, listing_next, listing_ends}
+use Rattle.history.proofs.Writing.{listing_starts, listing_next, listing_ends}
 use Rattle.history.proofs.sheet.write_sheet.Goals as goal
-
-pub bounds-sheet-1 : goal.bounds-sheet-1
-bounds-sheet-1 c = simp length-set (omega arith)
-
-pub put16-requires : goal.put16-requires
-put16-requires c = simp length-set (omega arith)
 
 pub loop-i-init : goal.loop-i-init
 loop-i-init c = let a = c.args in listing_starts _ _ (omega (arith, length-sets a.sheet.now 0 (sheet_version ∷ a.verdict ∷ [])))
-
-pub put16-requires-in-loop-i : goal.put16-requires-in-loop-i
-put16-requires-in-loop-i c = omega (arith, listing_sized c.loop-i.invariant)
 
 pub loop-i-preserved : goal.loop-i-preserved
 loop-i-preserved c = listing_next c.loop-i.invariant (omega arith) c.put16-in-loop-i.ensures

@@ -1,40 +1,31 @@
 -- `try_fate` meets its contract: no value can have been taken, or the fate that is tried succeeds, or the pattern stays.
 use native.Mathlib.Omega.{arith}
+use mathlib.Core.Path.{refl}
 use Rattle.reader.specs.Log.{max_records}
 use Rattle.matching.proofs.Storing.{new_cleared}
 use Rattle.fates.proofs.Laws.{fate_held}
-use borrow.Author.Rules.{rules}
+use Rattle.patterns.proofs.Numbered.{numbered}
 use Rattle.judge.proofs.Fating.{no_fate_helps, fate_helps, fate_fails}
 use Rattle.judge.proofs.decide.try_fate.Goals as goal
 
-pub returns-then-count-a : goal.returns-then-count-a
-returns-then-count-a c = let pre = c.requires in
-    record { outcome = λ violation. no_fate_helps pre.0 pre.1 pre.3 pre.4 violation c.soonest_free-a.ensures c.if-count-a.true }
+pub returns-in_err-a : goal.returns-in_err-a
+returns-in_err-a c = let pre = c.requires in
+    rw c.from_residual.ensures (record { outcome = λ violation. no_fate_helps pre.0 pre.1 pre.2 pre.3 violation c.in_err-a.ensures (omega arith) })
 
-pub take-requires : goal.take-requires
-take-requires c = let pre = c.requires in
-    let lawful = pre.0.lawful in (
-      omega (arith, pre.4.known, pre.0.few),
-      omega (arith, c.if-count-a.false, pre.0.few),
-      omega (arith, lawful.spans _ pre.4.known, lawful.ends _ pre.4.known),
-      pre.0.short,
-      pre.2,
-    )
+pub invariant_of-decide_complete : goal.invariant_of-decide_complete
+invariant_of-decide_complete c = let pre = c.requires in record { held = fate_held _ pre.0 pre.1 pre.3 c.take.ensures }
 
-pub decide_complete-tried-requires : goal.decide_complete-tried-requires
-decide_complete-tried-requires c = let pre = c.requires in
-    (fate_held _ pre.0 pre.1 pre.4 c.take.ensures, new_cleared max_records, search rules)
+pub decide_complete-requires : goal.decide_complete-requires
+decide_complete-requires c = new_cleared max_records
 
-pub returns-then-tried-ne-ORDER : goal.returns-then-tried-ne-ORDER
-returns-then-tried-ne-ORDER c = let pre = c.requires in
+pub returns-in-Order : goal.returns-in-Order
+returns-in-Order c = let pre = c.requires in
+    let (some, soonest) = c.in_ok-a.ensures in
+    record { outcome = λ violation. fate_helps pre.0 pre.1 pre.2 pre.3 violation soonest some c.take.ensures c.in-Order.ensures.1 refl }
+
+pub returns-in-Pattern : goal.returns-in-Pattern
+returns-in-Pattern c = let pre = c.requires in
+    let (some, soonest) = c.in_ok-a.ensures in
     record {
-      outcome = λ violation. fate_fails pre.0 pre.1 pre.3 pre.4 violation c.soonest_free-a.ensures (omega (arith, c.if-count-a.false))
-          c.take.ensures c.decide_complete-tried.ensures.1 c.if-tried-ne-ORDER.true;
-    }
-
-pub returns : goal.returns
-returns c = let pre = c.requires in
-    record {
-      outcome = λ violation. fate_helps pre.0 pre.1 pre.3 pre.4 violation c.soonest_free-a.ensures (omega (arith, c.if-count-a.false))
-          c.take.ensures c.decide_complete-tried.ensures.1 (omega (arith, c.if-tried-ne-ORDER.false));
+      outcome = λ violation. fate_fails pre.0 pre.1 pre.2 pre.3 violation soonest some c.take.ensures c.in-Pattern.ensures.1 (λ e. omega (arith, numbered c.in-Pattern.field-0.pattern));
     }

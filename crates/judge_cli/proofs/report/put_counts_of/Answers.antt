@@ -9,12 +9,12 @@ use Rattle.judge_cli.proofs.report.put_counts_of.Goals as goal
 
 pub put_counts-requires : goal.put_counts-requires
 put_counts-requires c = let a = c.args in
-    omega (arith, ap length (counts_readable (read_log a.log.now) c.check.ensures c.in-Readable.is))
+    omega (arith, ap length (counts_readable (read_log a.log.now) c.check.ensures c.in-Ok.is))
 
-pub returns-in-Refused : goal.returns-in-Refused
-returns-in-Refused c = let a = c.args in
-    puts_same (counts_refused (read_log a.log.now) c.check.ensures c.in-Refused.is) (puts_nothing a.text.now 0)
+pub returns-in-Err : goal.returns-in-Err
+returns-in-Err c = let a = c.args in
+    puts_same (counts_refused (read_log a.log.now) c.check.ensures c.in-Err.is) (puts_nothing a.text.now 0)
 
-pub returns-in-Readable : goal.returns-in-Readable
-returns-in-Readable c = let a = c.args in
-    puts_same (counts_readable (read_log a.log.now) c.check.ensures c.in-Readable.is) c.put_counts.ensures
+pub returns-in-Ok : goal.returns-in-Ok
+returns-in-Ok c = let a = c.args in
+    puts_same (counts_readable (read_log a.log.now) c.check.ensures c.in-Ok.is) c.put_counts.ensures

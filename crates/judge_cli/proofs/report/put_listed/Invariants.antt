@@ -1,4 +1,3 @@
-use Prim.Native.Nat.{◌-◌, ◌≤◌}
 use mathlib.Core.Path.{◌≡◌}
 use lib.ListN.{length}
 use Rattle.text.specs.Text.{Puts}
@@ -7,7 +6,4 @@ use Rattle.judge_cli.proofs.report.put_listed.Given as given
 
 -- `put_listed` meets its contract. The invariant: the first i operations are put, and the buffer is as long as it was.
 abbrev pub invariant-loop-i : given.invariant-loop-i
-invariant-loop-i l = (l.i ≤ l.k) × (length l.text ≡ length l.initial.text) × Puts (listing l.sheet l.i) l.at l.initial.text l.next l.text
-
-abbrev pub decreases-loop-i : given.decreases-loop-i
-decreases-loop-i l = l.k - l.i
+invariant-loop-i l = (length l.text ≡ length l.initial.text) × Puts (listing l.sheet l.i) l.at l.initial.text l.next l.text

@@ -1,14 +1,13 @@
--- `fill_reaches` meets its contract. The loop's invariant: o is within the operations, and the table is right below o.
+-- `fill_reaches` meets its contract. The loop's invariant: the table is right below o.
 use native.Mathlib.Omega.{arith}
-use mathlib.Core.Path.{◌≡◌}
-use Rattle.matching.proofs.Reaching.{reaches_more}
+use lib.ListN.{length-set}
+use Rattle.matching.proofs.Storing.{filled_more}
 use Rattle.matching.proofs.reaches.fill_reaches.Goals as goal
 
-pub loop-o-init : goal.loop-o-init
-loop-o-init c = (omega arith, record { sized = c.requires.2; reaches = λ o l. absurd (omega arith) })
-
 pub loop-o-preserved : goal.loop-o-preserved
-loop-o-preserved c = (omega arith, reaches_more c.loop-o.invariant.1 (omega arith) c.reach_of.ensures)
-
-pub returns : goal.returns
-returns c = let last : c.loop-o.o ≡ c.args.count = omega arith in rw last at c.loop-o.invariant.1
+loop-o-preserved c =
+    let inv = c.loop-o.invariant in
+    record {
+      sized = simp length-set inv.sized;
+      reaches = filled_more c.loop-o.reach (omega (arith, inv.sized, c.loop-o-test.true, c.args.matched.now.history.held.few)) inv.reaches c.reach_of.ensures;
+    }

@@ -1,11 +1,7 @@
-use Prim.Native.Nat.{◌-◌}
 use Rattle.matching.proofs.Firsts.{Unfound}
-use Rattle.patterns.specs.Blocked.{Blocks}
+use Rattle.patterns.specs.Views.{BlocksIn}
 use Rattle.patterns.proofs.blocked.blocked_by.Given as given
 
 -- `blocked_by` meets its contract. The invariant is `Unfound`: b is at most `count`, and add a blocks no operation below it.
 abbrev pub invariant-loop-b : given.invariant-loop-b
-invariant-loop-b l = Unfound (Blocks l.table l.partner l.reach l.a) l.count l.b
-
-abbrev pub decreases-loop-b : given.decreases-loop-b
-decreases-loop-b l = l.count - l.b
+invariant-loop-b l = Unfound (BlocksIn l.reached l.a) l.reached.matched.history.count l.b

@@ -8,7 +8,7 @@ use Rattle.history.specs.History.{History, empty_remove}
 use Rattle.violations.specs.Violations.{Is}
 use Rattle.matching.specs.Held.{Held}
 use Rattle.matching.specs.Returns.{ReturnsNoted}
-use Rattle.matching.proofs.Numbers.{Larger}
+use Rattle.matching.proofs.Numbers.{Larger, larger_is}
 use Rattle.matching.proofs.Returning.{Highest}
 use Rattle.patterns.specs.Chains.{NextNoted, NextTable}
 use Rattle.patterns.proofs.Chaining.{linked_starts, linked_ends, room_left, linked_more, none_covers}
@@ -33,30 +33,27 @@ module _ {h : History} {noted next : List ℕ} {e gap from best : ℕ}
   highest l = tried_all tried (omega (arith, inside)) next_at l
 
 pub gaps-init : goal.gaps-init
-gaps-init c = (rw c.call_of-gap.ensures (linked_starts c.args.e c.args.list.now c.requires.4), tried_none)
+gaps-init c = (rw c.call-gap.ensures (linked_starts c.args.e c.args.list.now c.told-list), tried_none)
 
-pub loop-listed-init : goal.loop-listed-init
-loop-listed-init c = c.gaps.invariant
-
-pub loop-listed-preserved : goal.loop-listed-preserved
-loop-listed-preserved c =
-    let before = rw c.return_of-until.ensures at c.gaps-test.true in
-    (c.loop-listed.invariant.0, one_more c.requires.0 c.requires.3 before c.requires.2 c.loop-listed.invariant.1 c.if-gap-returned.false c.max-best.ensures)
+pub adds-preserved : goal.adds-preserved
+adds-preserved c =
+    let before = rw c.returned-until.ensures at c.if-until-gap.false in
+    (c.adds.invariant.0, one_more c.args.h.now.held c.requires.2 before c.requires.1 c.adds.invariant.1 c.if-gap-returned.false (larger_is c.max-best.ensures))
 
 pub gaps-preserved : goal.gaps-preserved
 gaps-preserved c =
-    let (linked, tried) = c.loop-listed.invariant in
-    let before = rw c.return_of-until.ensures at c.gaps-test.true in
-    let all = highest c.requires.0 c.requires.3 before c.requires.2 tried c.if-gap-returned.true c.requires.1.returns in
-    let furthest = furthest_found c.requires.0 c.requires.1 all c.if-best-gap.false in
-    (linked_more linked before (room_left linked before c.requires.0 c.requires.3) furthest, tried_on tried c.if-best-gap.false)
+    let (linked, tried) = c.adds.invariant in
+    let before = rw c.returned-until.ensures at c.if-until-gap.false in
+    let all = highest c.args.h.now.held c.requires.2 before c.requires.1 tried c.if-gap-returned.true c.requires.0.returns in
+    let furthest = furthest_found c.args.h.now.held c.requires.0 all c.if-best-gap.false in
+    (linked_more linked before (room_left linked before c.args.h.now.held c.requires.2) furthest, tried_on tried c.if-best-gap.false)
 
-pub returns-after-gaps : goal.returns-after-gaps
-returns-after-gaps c = linked_ends c.gaps.invariant.0 (rw c.return_of-until.ensures at c.gaps-test.false)
+pub returns-then-until-gap : goal.returns-then-until-gap
+returns-then-until-gap c = (c.gaps.invariant.0.some, linked_ends c.gaps.invariant.0 (rw c.returned-until.ensures at c.if-until-gap.true))
 
 pub returns-then-best-gap : goal.returns-then-best-gap
 returns-then-best-gap c =
-    let (linked, tried) = c.loop-listed.invariant in
-    let before = rw c.return_of-until.ensures at c.gaps-test.true in
-    let all = highest c.requires.0 c.requires.3 before c.requires.2 tried c.if-gap-returned.true c.requires.1.returns in
-    none_covers linked before (gap_uncovered c.requires.0 c.requires.1 all c.if-best-gap.true)
+    let (linked, tried) = c.adds.invariant in
+    let before = rw c.returned-until.ensures at c.if-until-gap.false in
+    let all = highest c.args.h.now.held c.requires.2 before c.requires.1 tried c.if-gap-returned.true c.requires.0.returns in
+    none_covers linked before (gap_uncovered c.args.h.now.held c.requires.0 all c.if-best-gap.true)

@@ -1,25 +1,17 @@
--- `fill_ranks` meets its contract. The loop's invariant: a is within the operations, and the table is right below a.
-use Prim.Native.Nat.{◌≤◌}
+-- `fill_ranks` meets its contract: no value reaches beyond the end, so a rank is small.
 use native.Mathlib.Omega.{arith}
-use mathlib.Core.Path.{◌≡◌, refl}
-use Rattle.history.specs.Positions.{max_positions}
-use Rattle.matching.specs.Reaches.{reach_at}
-use Rattle.matching.proofs.Reaching.{reach_within}
-use Rattle.patterns.proofs.Ranking.{ranked_other, ranked_more}
+use Rattle.history.specs.History.{add}
+use Rattle.violations.specs.Violations.{Is}
+use Rattle.matching.specs.View.{history_in}
+use Rattle.matching.proofs.Reaching.{reach_within, reaching_kept}
 use Rattle.patterns.proofs.chain.fill_ranks.Goals as goal
-use Rattle.patterns.proofs.chain.fill_ranks.Goals.{then-kind_of-eq-ADD, else-kind_of-eq-ADD}
 
-pub loop-a-init : goal.loop-a-init
-loop-a-init c = (omega arith, record { sized = c.requires.2; ranks = λ a l. absurd (omega arith) })
+pub overflow_mul-rank : goal.overflow_mul-rank
+overflow_mul-rank c = let h = c.args.reached.now.matched.history in
+    let is : Is (history_in h) add c.loop-a.a = record { known = c.loop-a-test.true; kinds = rw c.kind.ensures at c.if-kind-eq-ADD.true } in
+    omega (arith, reach_within h.held (reaching_kept c.args.reached.now.reaching) is, h.held.short)
 
-pub loop-a-preserved : goal.loop-a-preserved
-loop-a-preserved c = (
-  omega arith,
-  elim c.if-kind_of-eq-ADD.branch [
-    | then-kind_of-eq-ADD w ↦ rw w.rank-is (ranked_more c.loop-a.invariant.1 (omega arith) refl)
-    | else-kind_of-eq-ADD w ↦ rw w.rank-is (ranked_other c.loop-a.invariant.1 (λ k. omega (arith, w.if-kind_of-eq-ADD.false)))
-  ],
-)
-
-pub returns : goal.returns
-returns c = let last : c.loop-a.a ≡ c.args.count = omega arith in rw last at c.loop-a.invariant.1
+pub overflow_add-rank : goal.overflow_add-rank
+overflow_add-rank c = let h = c.args.reached.now.matched.history in
+    let is : Is (history_in h) add c.loop-a.a = record { known = c.loop-a-test.true; kinds = rw c.kind.ensures at c.if-kind-eq-ADD.true } in
+    omega (arith, reach_within h.held (reaching_kept c.args.reached.now.reaching) is, h.held.short)

@@ -1,32 +1,26 @@
 -- `find_cause` meets its contract.
-use native.Mathlib.Omega.{arith}
 use mathlib.Core.Path.{refl}
-use mathlib.Core.Logic.{inl, inr}
-use Rattle.patterns.proofs.Finding.{listed_last}
+use mathlib.Core.Logic.{inr}
+use Rattle.matching.specs.View.{history_in}
+use Rattle.matching.proofs.Reaching.{reaching_kept}
+use Rattle.patterns.specs.Chains.{FirstChained}
+use Rattle.patterns.proofs.Answered.{listed_some}
+use Rattle.patterns.proofs.Finding.{none_last, listed_last}
 use Rattle.patterns.proofs.find.find_cause.Goals as goal
 
-pub find_pair-stuck-requires : goal.find_pair-stuck-requires
-find_pair-stuck-requires c = (c.requires.0, c.requires.1, c.requires.2, c.requires.3, c.fill_soonest.ensures, inl refl, c.requires.5)
-
-pub returns-then-stuck-gt0 : goal.returns-then-stuck-gt0
-returns-then-stuck-gt0 c = c.find_pair-stuck.ensures.found c.if-stuck-gt0.true
-
-pub find_pair-overtaken-requires : goal.find_pair-overtaken-requires
-find_pair-overtaken-requires c = (
+pub find_pair-requires-2 : goal.find_pair-requires-2
+find_pair-requires-2 c = (
   c.requires.0,
-  c.requires.1,
-  c.requires.2,
-  c.requires.3,
   c.fill_soonest.ensures,
-  inr (refl, c.find_pair-stuck.ensures.none (omega (arith, c.if-stuck-gt0.false))),
-  c.find_pair-stuck.ensures.sized,
+  inr (refl, c.in_default.ensures.none refl),
 )
 
-pub returns-then-overtaken-gt0 : goal.returns-then-overtaken-gt0
-returns-then-overtaken-gt0 c = c.find_pair-overtaken.ensures.found c.if-overtaken-gt0.true
+pub unwrap-requires : goal.unwrap-requires
+unwrap-requires c =
+    listed_some (λ k. FirstChained (history_in c.args.reached.now.matched.history) k c.false_empty.new.list) _ c.false_empty.ensures
+    (λ first. c.requires.1 (none_last c.args.reached.now.matched.history.held c.args.reached.now.matched.partners c.requires.0 (reaching_kept c.args.reached.now.reaching) (c.in_default.ensures.none refl) (c.in_default-find_pair.ensures.none refl) first refl))
 
 pub returns : goal.returns
-returns c = listed_last c.requires.0 c.requires.1 c.requires.2 c.requires.3
-    (c.find_pair-stuck.ensures.none (omega (arith, c.if-stuck-gt0.false)))
-    (c.find_pair-overtaken.ensures.none (omega (arith, c.if-overtaken-gt0.false)))
-    c.requires.4 c.false_empty.ensures
+returns c =
+    let listed = rw c.unwrap.ensures at c.false_empty.ensures in
+    listed_last c.args.reached.now.matched.history.held c.args.reached.now.matched.partners c.requires.0 (reaching_kept c.args.reached.now.reaching) (c.in_default.ensures.none refl) (c.in_default-find_pair.ensures.none refl) listed.1 listed.0

@@ -1,30 +1,31 @@
 -- `find_pair` meets its contract.
-use Prim.Native.Nat.{◌<◌}
 use native.Mathlib.Omega.{arith}
-use Rattle.matching.specs.Matching.{partner_at}
-use Rattle.patterns.proofs.Finding.{paired_none, paired_stuck_at, paired_overtaken_at, blocked_known, overtaken_partnered}
+use mathlib.Core.Path.{sym, ◌∙◌}
+use borrow.Author.Tests.{eqb-true, eqb-false}
+use Rattle.patterns.specs.declared.pattern.Pattern.TheVariants.{Stuck}
+use Rattle.patterns.specs.Views.{BlocksIn}
+use Rattle.matching.proofs.Reaching.{reaching_kept}
+use Rattle.patterns.proofs.Answered.{found_some}
+use Rattle.patterns.proofs.Numbered.{same_number}
+use Rattle.patterns.proofs.Finding.{paired_stuck_at, paired_overtaken_at}
 use Rattle.patterns.proofs.find.find_pair.Goals as goal
 
-pub first_blocking-a-requires : goal.first_blocking-a-requires
-first_blocking-a-requires c = (c.requires.0, c.requires.3, c.requires.4)
+pub unwrap-b-requires : goal.unwrap-b-requires
+unwrap-b-requires c =
+    let (known, first) = c.in_ok-a.ensures in
+    let (b, below, there) = (first.holds known).some in
+    found_some (BlocksIn c.args.reached.now c.in_ok-a.a) _ c.blocked_by.ensures below there
 
-pub returns-then-count-a : goal.returns-then-count-a
-returns-then-count-a c = paired_none c.requires.0 c.requires.1 c.requires.2 c.requires.3 c.args.list.now c.requires.6
-    c.first_blocking-a.ensures c.if-count-a.true
-
-pub blocked_by-b-requires : goal.blocked_by-b-requires
-blocked_by-b-requires c = (c.requires.0, c.requires.1, c.requires.3, record { known = c.if-count-a.false; kinds = (c.first_blocking-a.ensures.holds c.if-count-a.false).adds })
-
-pub overflow_sub-list : goal.overflow_sub-list
-overflow_sub-list c = (blocked_known c.requires.0 c.requires.1 c.requires.2 c.requires.3 c.first_blocking-a.ensures c.if-count-a.false c.blocked_by-b.ensures).1
-
-pub returns-then-pattern-eq-STUCK : goal.returns-then-pattern-eq-STUCK
-returns-then-pattern-eq-STUCK c = paired_stuck_at c.requires.0 c.requires.1 c.requires.2 c.requires.3 c.args.list.now c.requires.6
-    c.if-pattern-eq-STUCK.true c.first_blocking-a.ensures c.if-count-a.false c.blocked_by-b.ensures
-
-pub overflow_sub-list-2 : goal.overflow_sub-list-2
-overflow_sub-list-2 c = overtaken_partnered c.requires.5 c.if-pattern-eq-STUCK.false (c.first_blocking-a.ensures.holds c.if-count-a.false)
+pub returns-then-eq : goal.returns-then-eq
+returns-then-eq c =
+    let (known, first) = c.in_ok-a.ensures in
+    let blocked = rw c.unwrap-b.ensures at c.blocked_by.ensures in
+    let stuck = eqb-true _ _ (sym (same_number c.args.pattern Stuck) ∙ sym c.eq.ensures ∙ c.if-eq.true) in
+    (omega arith, paired_stuck_at c.args.reached.now.matched.history.held c.args.reached.now.matched.partners c.requires.0 (reaching_kept c.args.reached.now.reaching) c.args.list.now c.told-list stuck first known blocked.1)
 
 pub returns : goal.returns
-returns c = paired_overtaken_at c.requires.0 c.requires.1 c.requires.2 c.requires.3 c.args.list.now c.requires.6
-    c.requires.5 c.if-pattern-eq-STUCK.false c.first_blocking-a.ensures c.if-count-a.false c.blocked_by-b.ensures
+returns c =
+    let (known, first) = c.in_ok-a.ensures in
+    let blocked = rw c.unwrap-b.ensures at c.blocked_by.ensures in
+    let other = eqb-false _ _ (sym (same_number c.args.pattern Stuck) ∙ sym c.eq.ensures ∙ c.if-eq.false) in
+    (omega arith, paired_overtaken_at c.args.reached.now.matched.history.held c.args.reached.now.matched.partners c.requires.0 (reaching_kept c.args.reached.now.reaching) c.args.list.now c.told-list c.requires.2 other first known blocked.1)

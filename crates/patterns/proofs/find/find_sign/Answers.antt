@@ -1,20 +1,23 @@
 -- `find_sign` meets its contract.
-use native.Mathlib.Omega.{arith}
+use mathlib.Core.Path.{refl}
 use Rattle.matching.proofs.Firsts.{none_found}
-use Rattle.patterns.proofs.Finding.{signed_unknown, signed_twice, signed_early, signed_none, early_partnered}
+use Rattle.patterns.proofs.Signing.{again_found}
+use Rattle.patterns.proofs.Finding.{signed_unknown, signed_twice, signed_early}
 use Rattle.patterns.proofs.find.find_sign.Goals as goal
 
-pub returns-then-unknown-count : goal.returns-then-unknown-count
-returns-then-unknown-count c = signed_unknown c.requires.0 c.requires.1 c.args.list.now c.requires.2 c.first_showing-unknown.ensures c.if-unknown-count.true
+pub returns-in-Some : goal.returns-in-Some
+returns-in-Some c = let (known, first) = c.in-Some.ensures in signed_unknown c.args.matched.now.history.held c.args.matched.now.partners c.args.list.now c.told-list first known
 
-pub returns-then-twice-count : goal.returns-then-twice-count
-returns-then-twice-count c = signed_twice c.requires.0 c.requires.1 c.args.list.now c.requires.2 (none_found c.first_showing-unknown.ensures (omega (arith, c.first_showing-unknown.ensures.within, c.if-unknown-count.false))) c.first_showing-twice.ensures c.if-twice-count.true c.removed_again.ensures
+pub unwrap-requires : goal.unwrap-requires
+unwrap-requires c = let (known, first) = c.in-Some-first_showing.ensures in again_found c.args.matched.now.history.held c.args.matched.now.partners known (first.holds known) _ c.removed_again.ensures
 
-pub overflow_sub-list : goal.overflow_sub-list
-overflow_sub-list c = early_partnered (c.first_showing-early.ensures.holds c.if-early-count.true)
+pub returns-in-Some-first_showing : goal.returns-in-Some-first_showing
+returns-in-Some-first_showing c =
+    let (known, first) = c.in-Some-first_showing.ensures in
+    let again = rw c.unwrap.ensures at c.removed_again.ensures in
+    signed_twice c.args.matched.now.history.held c.args.matched.now.partners c.args.list.now c.told-list (none_found c.in_default.ensures refl) first known again.1
 
-pub returns-then-early-count : goal.returns-then-early-count
-returns-then-early-count c = signed_early c.requires.0 c.requires.1 c.args.list.now c.requires.2 (none_found c.first_showing-unknown.ensures (omega (arith, c.first_showing-unknown.ensures.within, c.if-unknown-count.false))) (none_found c.first_showing-twice.ensures (omega (arith, c.first_showing-twice.ensures.within, c.if-twice-count.false))) c.first_showing-early.ensures c.if-early-count.true
-
-pub returns : goal.returns
-returns c = signed_none c.requires.0 c.requires.1 c.args.list.now c.requires.2 c.first_showing-unknown.ensures c.if-unknown-count.false c.first_showing-twice.ensures c.if-twice-count.false c.first_showing-early.ensures c.if-early-count.false
+pub returns-in-Some-first_showing-2 : goal.returns-in-Some-first_showing-2
+returns-in-Some-first_showing-2 c =
+    let (known, first) = c.in-Some-first_showing-2.ensures in
+    signed_early c.args.matched.now.history.held c.args.matched.now.partners c.args.list.now c.told-list (none_found c.in_default.ensures refl) (none_found c.in_default-first_showing.ensures refl) first known

@@ -6,12 +6,11 @@ use Rattle.projection.proofs.Collecting.{value_none, value_own}
 use Rattle.projection.proofs.excerpt.add_value.Goals as goal
 
 pub returns-then-kind-eq-NO_KIND : goal.returns-then-kind-eq-NO_KIND
-returns-then-kind-eq-NO_KIND c = value_none c.requires.2 (inl (rw c.kind_of-kind.ensures at c.if-kind-eq-NO_KIND.true))
+returns-then-kind-eq-NO_KIND c = value_none c.told-values (inl (rw c.kind_of-kind.ensures at c.if-kind-eq-NO_KIND.true))
 
 pub returns-then-kind-eq-EMPTY_REMOVE : goal.returns-then-kind-eq-EMPTY_REMOVE
-returns-then-kind-eq-EMPTY_REMOVE c = value_none c.requires.2 (inr (rw c.kind_of-kind.ensures at c.if-kind-eq-EMPTY_REMOVE.true))
+returns-then-kind-eq-EMPTY_REMOVE c = value_none c.told-values (inr (rw c.kind_of-kind.ensures at c.if-kind-eq-EMPTY_REMOVE.true))
 
 pub returns : goal.returns
 returns c = let is = c.kind_of-kind.ensures in
-    let pre = c.requires in
-    value_own (rw is at c.if-kind-eq-NO_KIND.false) (rw is at c.if-kind-eq-EMPTY_REMOVE.false) (rw c.value_of.ensures (pushed _ _ _ pre.1 pre.2))
+    value_own (rw is at c.if-kind-eq-NO_KIND.false) (rw is at c.if-kind-eq-EMPTY_REMOVE.false) (rw c.value_of.ensures (pushed _ _ _ c.requires.1 c.told-values))

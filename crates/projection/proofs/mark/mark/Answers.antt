@@ -1,26 +1,19 @@
--- `mark` meets its contract. The loop's invariant is `Marking`: the records before i are marked, and their callers noted. That there is no
--- record at the offset would go against the log being readable.
-use Rattle.history.proofs.Walking.{walking_small, walking_found, walking_room}
+-- `mark` meets its contract. What the loop keeps of the records before that of the walk is `Marking`: they are marked.
+use Rattle.history.proofs.Walking.{keeping_starts}
 use Rattle.projection.proofs.Marking.{marking_starts, marking_next, marking_ends}
 use Rattle.projection.proofs.mark.mark.Goals as goal
 
-pub loop-i-init : goal.loop-i-init
-loop-i-init c = marking_starts c.requires.0 c.requires.1
+pub loop-step-init : goal.loop-step-init
+loop-step-init c = keeping_starts c.new-walk.ensures (marking_starts c.requires.1)
 
-pub returns-in-Malformed : goal.returns-in-Malformed
-returns-in-Malformed c = absurd (walking_found c.loop-i.invariant.walking c.loop-i-test.true c.decode_at.ensures c.in-Malformed.is)
+pub bounds-kept-step : goal.bounds-kept-step
+bounds-kept-step c = c.in-Some.ensures.owner_small
 
-pub owner_of-owner-requires : goal.owner_of-owner-requires
-owner_of-owner-requires c = walking_room c.loop-i.invariant.walking c.loop-i-test.true
+pub bounds-marks-step : goal.bounds-marks-step
+bounds-marks-step c = c.in-Some.ensures.index_small
 
-pub bounds-kept-o : goal.bounds-kept-o
-bounds-kept-o c = c.owner_of-owner.ensures.small
-
-pub bounds-marks-i : goal.bounds-marks-i
-bounds-marks-i c = walking_small c.loop-i.invariant.walking c.loop-i-test.true
-
-pub loop-i-preserved : goal.loop-i-preserved
-loop-i-preserved c = marking_next c.loop-i.invariant c.loop-i-test.true c.decode_at.ensures c.in-Found.is c.owner_of-owner.ensures
+pub loop-step-preserved : goal.loop-step-preserved
+loop-step-preserved c = marking_next c.loop-step.invariant c.in-Some.ensures
 
 pub returns : goal.returns
-returns c = marking_ends c.loop-i.invariant c.loop-i-test.false
+returns c = marking_ends c.loop-step.invariant c.in_default.ensures.1

@@ -1,17 +1,15 @@
 -- `narrow` meets its contract: the table agrees with the log's history, so that the operations on the values are kept.
-use borrow.Author.Rules.{rules}
+use native.Mathlib.Omega.{arith}
 use Rattle.history.proofs.Tabulating.{table_of}
-use Rattle.projection.proofs.Answering.{narrow_refused, count_small, writes_projection, narrow_readable}
+use Rattle.projection.proofs.Answering.{writes_projection, narrow_readable}
+use Rattle.projection.proofs.Findings.{held}
 use Rattle.projection.proofs.narrow.narrow.Goals as goal
 
-pub keep-requires : goal.keep-requires
-keep-requires c = (count_small (table_of _ c.tabulate.ensures.0 c.in-Readable.is c.tabulate.ensures.1), search rules)
+pub overflow_add-h : goal.overflow_add-h
+overflow_add-h c = omega (arith, (held (table_of _ c.tabulate.ensures.0 c.in_ok-counts.was c.tabulate.ensures.1)).short)
 
-pub write_kept-requires : goal.write_kept-requires
-write_kept-requires c = (table_of _ c.tabulate.ensures.0 c.in-Readable.is c.tabulate.ensures.1).whole
+pub invariant_of-h : goal.invariant_of-h
+invariant_of-h c = record { held = held (table_of _ c.tabulate.ensures.0 c.in_ok-counts.was c.tabulate.ensures.1) }
 
-pub returns-in-Refused : goal.returns-in-Refused
-returns-in-Refused c = narrow_refused _ _ _ c.tabulate.ensures.0 c.in-Refused.is
-
-pub returns-in-Readable : goal.returns-in-Readable
-returns-in-Readable c = let of = (table_of _ c.tabulate.ensures.0 c.in-Readable.is c.tabulate.ensures.1) in narrow_readable of _ (writes_projection of c.keep.ensures c.write_kept.ensures)
+pub returns : goal.returns
+returns c = let of = (table_of _ c.tabulate.ensures.0 c.in_ok-counts.was c.tabulate.ensures.1) in narrow_readable of _ (writes_projection of c.keep.ensures c.write_kept.ensures)

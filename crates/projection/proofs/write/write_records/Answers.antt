@@ -1,31 +1,29 @@
--- `write_records` meets its contract. The loop's invariant is `Writing`: the marked ones of the records before i are copied.
+-- `write_records` meets its contract. The loop's invariant is `Writing`: the marked ones of the records before it are copied.
 use native.Mathlib.Omega.{arith}
-use Rattle.projection.proofs.Writing.{writing_starts, writing_small, writing_fits, writing_room, writing_next, writing_ends}
+use Rattle.projection.proofs.Writing.{writing_starts, writing_small, writing_room, writing_marked, writing_passed}
 use Rattle.projection.proofs.write.write_records.Goals as goal
+use Rattle.projection.proofs.write.write_records.Goals.{then-marked, else-marked}
 
-pub loop-i-init : goal.loop-i-init
-loop-i-init c = writing_starts (λ j. omega (arith, c.type_inv.log j)) c.requires.0 c.requires.1
-
-pub bounds-marks-i : goal.bounds-marks-i
-bounds-marks-i c = (writing_small c.loop-i.invariant c.loop-i-test.true c.end_of-next.ensures).0
-
-pub overflow_sub-next : goal.overflow_sub-next
-overflow_sub-next c = (writing_small c.loop-i.invariant c.loop-i-test.true c.end_of-next.ensures).1
-
-pub overflow_add-end : goal.overflow_add-end
-overflow_add-end c = omega (arith, c.if_marked-size.ensures.1, writing_small c.loop-i.invariant c.loop-i-test.true c.end_of-next.ensures)
+pub loop-marked-init : goal.loop-marked-init
+loop-marked-init c = writing_starts (λ j. omega (arith, c.type_inv.log j)) c.requires.0 c.requires.1
 
 pub slice_bounds-copy-end : goal.slice_bounds-copy-end
-slice_bounds-copy-end c = omega (arith, c.if_marked-size.ensures.1, writing_small c.loop-i.invariant c.loop-i-test.true c.end_of-next.ensures)
+slice_bounds-copy-end c = (writing_small c.loop-marked.invariant c.loop-marked-test.true c.end_of-next.ensures).1
+
+pub slice_bounds-copy-start : goal.slice_bounds-copy-start
+slice_bounds-copy-start c = (writing_small c.loop-marked.invariant c.loop-marked-test.true c.end_of-next.ensures).0
+
+pub slice_bounds-copy-count : goal.slice_bounds-copy-count
+slice_bounds-copy-count c = (writing_small c.loop-marked.invariant c.loop-marked-test.true c.end_of-next.ensures).0
+
+pub overflow_sub-at : goal.overflow_sub-at
+overflow_sub-at c = (writing_small c.loop-marked.invariant c.loop-marked-test.true c.end_of-next.ensures).0
 
 pub copy-requires : goal.copy-requires
-copy-requires c = writing_room c.loop-i.invariant c.loop-i-test.true c.end_of-next.ensures c.if_marked-size.ensures
+copy-requires c = writing_room c.loop-marked.invariant c.loop-marked-test.true c.end_of-next.ensures c.if-marked.true
 
-pub overflow_add-at : goal.overflow_add-at
-overflow_add-at c = omega (arith, writing_fits c.loop-i.invariant c.loop-i-test.true c.end_of-next.ensures c.if_marked-size.ensures)
-
-pub loop-i-preserved : goal.loop-i-preserved
-loop-i-preserved c = writing_next c.loop-i.invariant c.loop-i-test.true c.end_of-next.ensures c.if_marked-size.ensures c.copy.ensures
-
-pub returns : goal.returns
-returns c = writing_ends c.loop-i.invariant c.loop-i-test.false
+pub loop-marked-preserved : goal.loop-marked-preserved
+loop-marked-preserved c = elim c.if-marked.branch [
+  | then-marked w ↦ rw (w.out-is, w.at-is, w.from-is) (writing_marked c.loop-marked.invariant c.loop-marked-test.true c.end_of-next.ensures w.if-marked.true w.copy.ensures)
+  | else-marked w ↦ rw (w.out-is, w.at-is, w.from-is) (writing_passed c.loop-marked.invariant c.loop-marked-test.true c.end_of-next.ensures w.if-marked.false)
+]

@@ -1,23 +1,23 @@
 -- `extend_records` meets its contract: the outcome of `read_all` says what the log is read as, and `fault_behind` what is wrong with the bytes.
-use mathlib.Core.Path.{sym, ap}
-use Rattle.reader.specs.Feed.{extended}
-use Rattle.reader.proofs.Scanning.{all_new, passed_all, passed_not, all_have_room, extends_full, extends_faulty, extends_fits}
+use mathlib.Core.Path.{◌≡◌, refl, sym}
+use Rattle.std.proofs.Common.{rules, Ok, Err}
+use Rattle.reader.proofs.Scanning.{passed_all, all_have_room, extends_full, extends}
 use Rattle.reader.proofs.scan.extend_records.Goals as goal
 
-pub read_all-requires : goal.read_all-requires
-read_all-requires c = (c.requires, all_new)
-
 pub returns-then-count-ge-MAX_RECORDS : goal.returns-then-count-ge-MAX_RECORDS
-returns-then-count-ge-MAX_RECORDS c = extends_full (passed_all c.read_all.ensures c.in-Through.is) _ c.if-count-ge-MAX_RECORDS.true
+returns-then-count-ge-MAX_RECORDS c = rw c.from-then-count-ge-MAX_RECORDS.ensures (extends_full (passed_all c.read_all.ensures c.in-Ok.is) _ c.if-count-ge-MAX_RECORDS.true)
 
-pub fault_behind-number-requires : goal.fault_behind-number-requires
-fault_behind-number-requires c = all_have_room (passed_all c.read_all.ensures c.in-Through.is) c.if-count-ge-MAX_RECORDS.false
+pub fault_behind-requires : goal.fault_behind-requires
+fault_behind-requires c = all_have_room (passed_all c.read_all.ensures c.in-Ok.is) c.if-count-ge-MAX_RECORDS.false
 
-pub returns-then-number-ne0 : goal.returns-then-number-ne0
-returns-then-number-ne0 c = extends_faulty (passed_all c.read_all.ensures c.in-Through.is) _ c.fault_behind-number.ensures c.if-count-ge-MAX_RECORDS.false c.if-number-ne0.true
+pub returns-in_err-map_err : goal.returns-in_err-map_err
+returns-in_err-map_err c =
+    let was : c.fault_behind.result ≡ Err c.in_err-map_err.field-0.0.refusal = search rules in
+    let at : c.in_err-map_err.field-0.0.index ≡ c.args.count = search rules in
+    let same : c.from_residual.result ≡ Err c.in_err-map_err.field-0.0 = search rules in
+    rw (same, sym (extends (passed_all c.read_all.ensures c.in-Ok.is) _ c.fault_behind.ensures c.if-count-ge-MAX_RECORDS.false), was, ← at) refl
 
-pub returns-in-Stopped : goal.returns-in-Stopped
-returns-in-Stopped c = sym (ap (λ reading. extended reading c.args.bytes.now) (passed_not c.read_all.ensures c.in-Stopped.is))
-
-pub returns-else-number-ne0 : goal.returns-else-number-ne0
-returns-else-number-ne0 c = extends_fits (passed_all c.read_all.ensures c.in-Through.is) _ c.fault_behind-number.ensures c.if-count-ge-MAX_RECORDS.false c.if-number-ne0.false
+pub returns : goal.returns
+returns c =
+    let was : c.fault_behind.result ≡ Ok tt = search rules in
+    rw was at (extends (passed_all c.read_all.ensures c.in-Ok.is) _ c.fault_behind.ensures c.if-count-ge-MAX_RECORDS.false)

@@ -6,8 +6,5 @@ use Rattle.replay.proofs.order.is_linearization.Goals as goal
 pub place_all-requires : goal.place_all-requires
 place_all-requires c = (c.requires.0, c.requires.2, unmarked_new)
 
-pub returns-then-not-place_all : goal.returns-then-not-place_all
-returns-then-not-place_all c = rw c.if-not-place_all.true at (c.place_all.ensures.tried c.args.end)
-
 pub returns : goal.returns
 returns c = legal_decided (rw c.if-not-place_all.false at (c.place_all.ensures.tried c.args.end)) c.all_marked.result c.all_marked.ensures

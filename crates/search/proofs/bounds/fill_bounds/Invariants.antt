@@ -1,10 +1,6 @@
-use Prim.Native.Nat.{◌≤◌}
 use Rattle.search.specs.Bounds.{BoundTable}
 use Rattle.search.proofs.bounds.fill_bounds.Given as given
 
 -- `fill_bounds` meets its contract. The loop's invariant: o is within the operations, and the table is right from o on.
 abbrev pub invariant-loop-o : given.invariant-loop-o
-invariant-loop-o l = (l.o ≤ l.count) × BoundTable l.count l.end l.limit l.o l.bound
-
-abbrev pub decreases-loop-o : given.decreases-loop-o
-decreases-loop-o l = l.o
+invariant-loop-o l = BoundTable l.h.count l.h.end l.limit l.o l.bound

@@ -1,4 +1,3 @@
-use Prim.Native.Nat.{◌-◌}
 use Rattle.search.proofs.Covering.{SweptTo}
 use Rattle.search.proofs.gaps.sweep.Given as given
 
@@ -6,6 +5,3 @@ use Rattle.search.proofs.gaps.sweep.Given as given
 -- furthest is how far a value reaches at most that is noted below g; last is 1 above the last gap below g that no value covers.
 abbrev pub invariant-loop-g : given.invariant-loop-g
 invariant-loop-g l = SweptTo l.end l.initial.gaps l.gaps l.furthest l.last l.g
-
-abbrev pub decreases-loop-g : given.decreases-loop-g
-decreases-loop-g l = l.end - l.g

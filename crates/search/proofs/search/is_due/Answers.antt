@@ -1,11 +1,9 @@
--- `is_due` meets its contract.
-use Rattle.matching.proofs.Tests.{decided_less}
-use Rattle.search.proofs.Due.{reach_due, due_reach}
-use Rattle.violations.proofs.Laws.{returned_due}
+-- `is_due` meets its contract: an operation that has not returned is listed if its value reaches less far than the end.
+use Rattle.matching.proofs.Reaching.{reaching_kept}
+use Rattle.search.proofs.Fitting.{due_tested}
 use Rattle.search.proofs.search.is_due.Goals as goal
 
-pub returns-then-return_of-end : goal.returns-then-return_of-end
-returns-then-return_of-end c = returned_due c.requires.0.lawful _ c.requires.2 (rw c.return_of.ensures at c.if-return_of-end.true)
-
 pub returns : goal.returns
-returns c = decided_less _ _ (reach_due c.requires.0 c.requires.1 _ c.requires.2 (rw c.return_of.ensures at c.if-return_of-end.false)) (due_reach c.requires.0 c.requires.1 _ c.requires.2 (rw c.return_of.ensures at c.if-return_of-end.false))
+returns c =
+    let reached = c.args.reached.now in
+    due_tested reached.matched.history.held (reaching_kept reached.reaching) c.args.o c.requires (rw c.returned.ensures at c.if-returned-h.false)

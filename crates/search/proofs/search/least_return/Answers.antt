@@ -1,27 +1,7 @@
--- `least_return` meets its contract. The loop's invariant: `least` is the least return of the first i that wait.
-use native.Mathlib.Omega.{arith}
-use mathlib.Core.Path.{◌≡◌}
-use Rattle.search.proofs.Least.{least_none, least_next}
-use Rattle.search.proofs.Standing.{entry}
+-- `least_return` meets its contract. The loop's invariant: `least` is the least return of those that wait before the index.
+use Rattle.matching.proofs.Numbers.{smaller_is}
+use Rattle.search.proofs.Least.{least_next}
 use Rattle.search.proofs.search.least_return.Goals as goal
 
-pub loop-i-init : goal.loop-i-init
-loop-i-init c = (omega arith, least_none _ _)
-
-pub bounds-waiting-i : goal.bounds-waiting-i
-bounds-waiting-i c = omega (arith, c.requires.1, c.loop-i-test.true)
-
-pub return_of-requires : goal.return_of-requires
-return_of-requires c = omega (arith, c.requires.3 _ (entry c.args.waiting.now c.args.n c.loop-i.i (omega (arith, c.requires.1, c.requires.2)) c.loop-i-test.true), c.requires.0.few)
-
-pub overflow_add-i : goal.overflow_add-i
-overflow_add-i c = omega (arith, c.loop-i-test.true, c.requires.1)
-
-pub loop-i-smaller : goal.loop-i-smaller
-loop-i-smaller c = omega (arith, c.loop-i-test.true)
-
-pub loop-i-preserved : goal.loop-i-preserved
-loop-i-preserved c = (omega (arith, c.loop-i-test.true), least_next c.args.waiting.now c.loop-i.i (omega (arith, c.loop-i-test.true, c.requires.1, c.requires.2)) c.loop-i.invariant.1 (rw c.return_of.ensures at c.min-least.ensures))
-
-pub returns : goal.returns
-returns c = let all : c.loop-i.i ≡ c.args.n = omega (arith, c.loop-i.invariant.0, c.loop-i-test.false) in rw all at c.loop-i.invariant.1
+pub loop-o-preserved : goal.loop-o-preserved
+loop-o-preserved c = least_next _ _ c.loop-o-test.true c.loop-o.invariant (smaller_is (rw c.returned.ensures at c.min-least.ensures))

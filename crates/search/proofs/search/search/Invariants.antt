@@ -1,11 +1,11 @@
 use Prim.Native.Nat.{◌-◌}
-use Rattle.history.specs.Table.{tabled}
+use Rattle.matching.specs.View.{history_in}
 use Rattle.search.specs.Searching.{Stands}
 use Rattle.search.proofs.search.search.Given as given
 
 -- `search` meets its contract. The loop's invariant is `Stands`.
 abbrev pub invariant-loop-s : given.invariant-loop-s
-invariant-loop-s l = Stands (tabled l.count l.end l.table) l.reach l.limit l.s l.waiting l.queue l.list
+invariant-loop-s l = Stands (history_in l.reached.matched.history) l.reached.reach.now l.limit l.s l.waiting l.queue l.list
 
 abbrev pub decreases-loop-s : given.decreases-loop-s
-decreases-loop-s l = l.count - l.s.placed
+decreases-loop-s l = l.reached.matched.history.count - l.s.placed

@@ -7,7 +7,7 @@ use Rattle.session.specs.Session.{empty_log}
 use Rattle.session.proofs.feed.begin.Goals as goal
 
 pub returns-then-buf-lt-HEADER : goal.returns-then-buf-lt-HEADER
-returns-then-buf-lt-HEADER c = (rw (lt-ltb _ _ c.if-buf-lt-HEADER.true) refl, rw (lt-ltb _ _ c.if-buf-lt-HEADER.true) refl)
+returns-then-buf-lt-HEADER c = (rw (c.from.ensures, lt-ltb _ _ c.if-buf-lt-HEADER.true) refl, rw (lt-ltb _ _ c.if-buf-lt-HEADER.true) refl)
 
 pub returns : goal.returns
 unfolding bytes_of
