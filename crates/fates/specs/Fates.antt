@@ -23,7 +23,7 @@ abbrev pub MetAt : (ℕ → ℕ) → ℕ → ℕ → Option ℕ → ℕ → Type
 MetAt f none n (Some r) x = (r < n) × (f r ≡ x) × (x < none)
 MetAt f none n None x = x ≡ none
 
--- The same of the first n numbers, while they are gone through: x is the least value of f, or `none`.
+-- So far as the first n numbers have been gone through, x is the least value of f, or `none`, and this is where f has it.
 pub record LeastSoFar (f : ℕ → ℕ) (none n : ℕ) (soonest : Option ℕ) (x : ℕ) : Type 0 where
   pub within : x ≤ none
   pub least : (p : ℕ) → p < n → x ≤ f p

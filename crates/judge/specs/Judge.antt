@@ -54,7 +54,9 @@ pub data Accepted : Verdict → Type 0 where
 -- A verdict is delivered into a lent sheet: the answer says what it is, and its sheet stands in the lent one, with what was behind it; or the answer
 -- is 24, and the lent sheet is as it was.
 pub record Delivers (found : Option patterns.Pattern) (listed sheet : List ℕ) (answer : Verdict) (sheet' : List ℕ) : Type 0 where
-  pub answers : answer ≡ (if lacks_room (sheet_of (byte_by found) listed) sheet then judge.Refused (record { refusal = BufferTooShort; index = 0 }) else (verdict_of found (length listed)))
+  pub answers : answer ≡ (if lacks_room (sheet_of (byte_by found) listed) sheet
+      then judge.Refused (record { refusal = BufferTooShort; index = 0 })
+      else (verdict_of found (length listed)))
   pub leaves : sheet' ≡ written (sheet_of (byte_by found) listed) sheet
 
 -- A readable log is judged: it has a verdict, an order as the judge lists it or the first pattern, and that is delivered. Document 01 leaves open
@@ -71,4 +73,5 @@ pub record Judgement (records : List Record) (sheet : List ℕ) (answer : Verdic
 -- record index, .. and writes nothing."
 pub data Judges : Reading → List ℕ → Verdict → List ℕ → Type 0 where
   judged : {records : List Record} {sheet sheet' : List ℕ} {answer : Verdict} → Judgement records sheet answer sheet' → Judges (readable records) sheet answer sheet'
-  turned_down : {refusal : Refusal} {index : ℕ} {sheet : List ℕ} → Judges (refused refusal index) sheet (judge.Refused (record { refusal = refusal; index = index })) sheet
+  turned_down : {refusal : Refusal} {index : ℕ} {sheet : List ℕ}
+      → Judges (refused refusal index) sheet (judge.Refused (record { refusal = refusal; index = index })) sheet

@@ -103,7 +103,7 @@ fault past r =
     if ltb r.tick (last_tick past) then Err TickFell else
     event_fault r.event (pending_kind past r.client) (returned_at past r.client r.tick) (added_values past)
 
--- what a log is read as: its records, first to last, or a refusal with its number and index (of `read_partial` below: readable but for 10; of a session,
+-- what a log is read as: its records, first to last, or a refusal with its index (of `read_partial` below: readable but for 10; of a session,
 -- also a refusal by how it stands)
 pub data Reading : Type 0 where
   readable : List Record → Reading

@@ -155,5 +155,8 @@ index_below bound i = if ltb i bound then Some i else None
 
 -- the answer of the scan, with the index of the second pending remove, if there is one
 abbrev pub surveyed : Reading → Result Survey Refused
-surveyed (readable records) = Ok (record { counts = record { records = length records; operations = operations records }; second_remove = index_below (length records) (second_remove records) })
+surveyed (readable records) = Ok (record {
+  counts = record { records = length records; operations = operations records };
+  second_remove = index_below (length records) (second_remove records);
+})
 surveyed (refused refusal index) = refusing refusal index

@@ -65,11 +65,13 @@ abbrev pub After : History → List ℕ → ℕ → List Bool → List ℕ → O
 After h order i marks queue None = Linearization Queue h order → ⊥
 After h order i marks queue (Some q) = Kept h order (i + 1) q marks queue
 
-pub record Stepped (h : History) (o : ℕ) (p : Progress) (marks : List Bool) (queue : List ℕ) (step : Option Progress) (marks' : List Bool) (queue' : List ℕ) : Type 0 where
+pub record Stepped (h : History) (o : ℕ) (p : Progress) (marks : List Bool) (queue : List ℕ)
+    (step : Option Progress) (marks' : List Bool) (queue' : List ℕ) : Type 0 where
   pub after : (order : List ℕ) (i : ℕ) → i < length order → placed order i ≡ o → Kept h order i p marks queue → After h order i marks' queue' step
 
 -- the same for the history in a table, wherever its end is
-pub record StepsIn (count : ℕ) (table : List ℕ) (o : ℕ) (p : Progress) (marks : List Bool) (queue : List ℕ) (step : Option Progress) (marks' : List Bool) (queue' : List ℕ) : Type 0 where
+pub record StepsIn (count : ℕ) (table : List ℕ) (o : ℕ) (p : Progress) (marks : List Bool) (queue : List ℕ)
+    (step : Option Progress) (marks' : List Bool) (queue' : List ℕ) : Type 0 where
   pub stepped : (end : ℕ) → Stepped (tabled count end table) o p marks queue step marks' queue'
 
 -- Every operation of the order is placed.

@@ -136,7 +136,8 @@ pub record Placed (h : History) (s : Stand) (i : ℕ) (waiting queue list : List
   pub placed_is : t.placed ≡ s.placed + 1
   pub stands : (reach limit : List ℕ) (cap : ℕ) → Reaching h reach → Limits h limit → Single h
       → Cap h limit (order_in s list) cap → Ready h reach limit s waiting queue list
-      → First (λ j. Fit h reach (queue_in s queue) cap (get_or (waiting_in s waiting) j 0)) (length (waiting_in s waiting)) i → Stands h reach limit t waiting' queue' list'
+      → First (λ j. Fit h reach (queue_in s queue) cap (get_or (waiting_in s waiting) j 0)) (length (waiting_in s waiting)) i
+      → Stands h reach limit t waiting' queue' list'
 
 -- What the search comes to: a legal order as the judge lists it, found as the search goes, or the tables do not serve, since some pattern occurs.
 abbrev pub Ends : History → List ℕ → List ℕ → Option ℕ → List ℕ → Type 0
