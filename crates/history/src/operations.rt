@@ -66,7 +66,8 @@ pub fn return_of(table: &Operations, o: usize) -> u32
     table[o * FIELDS + RETURN]
 }
 
-// Checks a log and, if it is readable, fills the table with its operations.
+// Checks a log and, if it is readable, fills the table with its operations. What that takes of the stack is free again when it returns.
+#[inline(never)]
 pub fn tabulate(log: &[u8], table: &mut Operations) -> Result<Counts, Refused>
     requires { length table.old ≡ table_length }
     ensures { (result ≡ checked (read_log log.now)) × Tabulated (read_log log.now) table.old table.new }

@@ -21,7 +21,7 @@ pub enum Verdict {
 }
 
 // The verdict byte of an order.
-const ORDER: u32 = 0;
+pub const ORDER: u32 = 0;
 
 // Writes the sheet of a pattern, or of an order, that lists these operations, if there is room for it.
 fn deliver(pattern: Option<Pattern>, listed: &[u32], sheet: &mut [u8]) -> Verdict

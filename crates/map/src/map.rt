@@ -7,9 +7,9 @@ use crate::chain;
 use crate::chain::Key;
 
 // As many entries as a log may have records.
-const KEYS: usize = 1024;
+pub const KEYS: usize = 1024;
 
-const SLOTS: usize = 512;
+pub const SLOTS: usize = 512;
 
 // A prime near 2^32 divided by the golden ratio.
 const FACTOR: u64 = 2654435761;

@@ -49,7 +49,8 @@ impl Adds {
 }
 
 // Fills the table of partners: for a remove a number 1 above the add of its value, for an add 1 above the latest remove of its value, or 0
-// where there is none.
+// where there is none. Its map is gone from the stack when it returns, as it stands by itself.
+#[inline(never)]
 pub fn match_values(table: &Operations, count: usize, partner: &mut Numbers)
     requires { (count ≤ max_records) × AddedOnce table.now count × Cleared max_records partner.old }
     ensures { Partners table.now count partner.new }

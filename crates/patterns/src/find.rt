@@ -76,6 +76,7 @@ fn find_pair(
 }
 
 // One of the patterns 4 to 6, where the search for an order has stopped short.
+#[inline(never)]
 pub fn find_cause(reached: &Reached, list: &mut Numbers) -> Finding
     requires { UnsignedIn reached.now.matched × (NoViolation Queue (history_in reached.now.matched.history) → ⊥) }
     ensures { PatternListed (history_in reached.now.matched.history) (number_of result.pattern) result.listed list.new }

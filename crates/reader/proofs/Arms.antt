@@ -3,12 +3,20 @@ use Prim.Native.Nat.{ℕ}
 use native.Mathlib.Omega.{arith}
 use mathlib.Core.Path.{◌≡◌, refl}
 use mathlib.Core.Bool.{not}
+use mathlib.Core.List.{[]}
+use mathlib.Core.Logic.{◌⊎◌, inl, inr}
 use lib.Dec.{eqb}
 use mir.Val.{bool_byte}
 use Rattle.record.specs.declared.record.Event.{Event}
+use Rattle.record.specs.declared.record.Removed.{Removed}
 use Rattle.record.specs.declared.record.Event.TheVariants.{CallAdd, CallRemove, ReturnAdd, ReturnRemove}
-use Rattle.reader.specs.Log.{is_call, leaves}
+use Rattle.reader.specs.Log.{is_call, leaves, value_of}
 use Rattle.reader.specs.Readable.{asks}
+
+-- returns call nothing, leave nothing pending and add no value
+pub returns_nothing : (e : Event) → (e ≡ ReturnAdd) ⊎ ((x : Removed) × (e ≡ ReturnRemove x)) → (is_call e ≡ 0) × (leaves e ≡ 0) × (value_of e ≡ [])
+returns_nothing e (inl added) = rw added (refl, refl, refl)
+returns_nothing e (inr removed) = rw removed.1 (refl, refl, refl)
 
 -- an event calls an operation exactly if it leaves a call pending
 pub calls_one : (e : Event) → bool_byte (not (eqb (leaves e) 0)) ≡ is_call e

@@ -13,6 +13,7 @@ use reader::format::MAX_RECORDS;
 
 // Searches for an order, by the limits that operations set, and lists it. Answers how many operations it has, or none if something is left that
 // may not be placed.
+#[inline(never)]
 pub fn find_order(reached: &Reached, list: &mut Numbers) -> Option<usize>
     requires { Single (history_in reached.now.matched.history) }
     ensures { Ordered (history_in reached.now.matched.history) result list.new }
