@@ -10,7 +10,6 @@ use lib.ListN.{length, take}
 use borrow.Author.Tests.{le-ltb}
 use Rattle.std.specs.Prelude.{Result, Ok, Err}
 use Rattle.record.specs.declared.refusal.Refused.{Refused}
-use Rattle.record.proofs.Refusals.{numbered}
 use Rattle.record.specs.Number.{Bytes}
 use Rattle.record.specs.declared.record.Record.{Record}
 use Rattle.buffer.specs.Buffer.{lacks_room}
@@ -58,7 +57,7 @@ excerpt_wrote {log} {excerpt} c = go (excerpt_answer (read_log log) c.buffer) re
     go (Ok n) is small e =
         let all : c.answer % refusal_unit ≡ n = omega (arith, e, small) in
         (n, is, c.wrote.bytes_are ∙ rw (all, c.leaves) refl)
-    go (Err r) is small e = let n = numbered r.refusal in absurd (omega (arith, e, c.wrote.accepted))
+    go (Err r) is small e = absurd (omega (arith, e, small.0, c.wrote.accepted))
 
 -- The sheet that yr_judge writes for a readable log is that of the log's archive,
 pub sheet_archived : {log : List ℕ} {records : List Record} → read_log log ≡ readable records → {sheet : List ℕ} → JudgeWrote log sheet

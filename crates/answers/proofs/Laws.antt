@@ -10,7 +10,7 @@ use lib.ListN.{length, drop}
 use lib.Dec.{ltb}
 use borrow.Author.Tests.{ltb-false}
 use Rattle.std.specs.Prelude.{Result, Ok, Err, if◌then◌else◌}
-use Rattle.record.specs.Refusal.{number_of, refusing}
+use Rattle.record.specs.Refusal.{number_of, told, refusing}
 use Rattle.record.specs.declared.refusal.Refusal.{Refusal}
 use Rattle.record.specs.declared.refusal.Refusal.TheVariants.{BufferTooShort, PageTooLong, RemoveUnreturned}
 use Rattle.record.specs.declared.refusal.Refused.{Refused}
@@ -56,8 +56,8 @@ pub record TurnedDown (answer number index : ℕ) : Type 0 where
 pub small_accepted : (value : ℕ) → value < refusal_unit → AcceptedWith value value
 small_accepted value h = record { high = omega arith; low = omega arith }
 
-pub refusal_turned_down : (r : Refused) → r.index < refusal_unit → TurnedDown (refusal r) (number_of r.refusal) r.index
-refusal_turned_down r i = let n = numbered r.refusal in record { some = n.0; high = omega arith; low = omega arith }
+pub refusal_turned_down : (r : Refused) → 1 ≤ r.number → r.index < refusal_unit → TurnedDown (refusal r) r.number r.index
+refusal_turned_down r n i = record { some = n; high = omega arith; low = omega arith }
 
 -- of a check
 pub check_accepted : (log : List ℕ) (records : List Record) → read_log log ≡ readable records → AcceptedWith (check_answer (checked (read_log log))) (operations records)
@@ -68,14 +68,14 @@ check_accepted log records e =
 pub check_turned_down : (log : List ℕ) (refusal : Refusal) (index : ℕ) → read_log log ≡ refused refusal index → TurnedDown (check_answer (checked (read_log log))) (number_of refusal) index
 check_turned_down log refusal index e =
     let small : Within (refused refusal index) = rw e at (within log) in
-    rw e (refusal_turned_down (record { refusal = refusal; index = index }) (omega (arith, small.2)))
+    rw e (refusal_turned_down (told refusal index) small.0 (omega (arith, small.2)))
 
 pub check_small : (log : List ℕ) → SmallCheck (checked (read_log log))
 check_small log = go (read_log log) (within log)
   where
     go : (reading : Reading) → Within reading → SmallCheck (checked reading)
     go (readable records) few = omega (arith, few, few_operations records)
-    go (refused refusal index) small = small.2
+    go (refused refusal index) small = (small.0, small.2)
 
 -- of a replay
 pub replay_yes : (log sheet : List ℕ) → replayed (read_log log) sheet ≡ Ok true → AcceptedWith (replay_answer (replayed (read_log log) sheet)) 1
@@ -84,17 +84,17 @@ replay_yes log sheet e = rw e (small_accepted 1 (omega arith))
 pub replay_no : (log sheet : List ℕ) → replayed (read_log log) sheet ≡ Ok false → AcceptedWith (replay_answer (replayed (read_log log) sheet)) 0
 replay_no log sheet e = rw e (small_accepted 0 (omega arith))
 
-pub replay_turned_down : (log sheet : List ℕ) (r : Refused) → replayed (read_log log) sheet ≡ Err r → TurnedDown (replay_answer (replayed (read_log log) sheet)) (number_of r.refusal) r.index
+pub replay_turned_down : (log sheet : List ℕ) (r : Refused) → replayed (read_log log) sheet ≡ Err r → TurnedDown (replay_answer (replayed (read_log log) sheet)) r.number r.index
 replay_turned_down log sheet r e =
     let (some, few, small) = replay_within log sheet e in
-    rw e (refusal_turned_down r (omega arith))
+    rw e (refusal_turned_down r some (omega arith))
 
 pub replay_small : (log sheet : List ℕ) → SmallReplay (replayed (read_log log) sheet)
 replay_small log sheet = go (replayed (read_log log) sheet) refl
   where
     go : (answer : Result Bool Refused) → replayed (read_log log) sheet ≡ answer → SmallReplay answer
     go (Ok legal) e = tt
-    go (Err r) e = (replay_within log sheet e).2
+    go (Err r) e = let (some, few, small) = replay_within log sheet e in (some, small)
 
 -- The answer is 1 exactly if the log is readable and the sheet lists a legal order of it.
 pub one_is_legal : (log sheet : List ℕ) → replay_answer (replayed (read_log log) sheet) ≡ 1 → ListsLinearization log sheet
@@ -137,7 +137,7 @@ pub writing_small : (bytes out : List ℕ) → length bytes ≤ max_length → S
 writing_small bytes out short = go (lacks_room bytes out)
   where
     go : (lacks : Bool) → SmallOutput (if lacks then refusing BufferTooShort 0 else Ok (length bytes))
-    go true = omega arith
+    go true = (omega arith, omega arith)
     go false = short
 
 pub narrow_small : (log values out : List ℕ) → SmallOutput (narrow_answer (read_log log) values out)
@@ -145,24 +145,24 @@ narrow_small log values out = go (read_log log) refl (within log)
   where
     go : (reading : Reading) → read_log log ≡ reading → Within reading → SmallOutput (narrow_answer reading values out)
     go (readable records) reads few = writing_small (encode_log (narrowed records values)) out (projection_short log records reads [] values)
-    go (refused refusal index) reads few = few.2
+    go (refused refusal index) reads few = (few.0, few.2)
 
 pub excerpt_small : {reading : Reading} → Known reading → (out : List ℕ) → SmallOutput (excerpt_answer reading out)
-excerpt_small (standing refusal) out = omega arith
+excerpt_small (standing refusal) out = ((numbered refusal).0, omega arith)
 excerpt_small (of_log log) out = go (read_log log) refl (within log)
   where
     of_pattern : (records : List Record) → read_log log ≡ readable records
         → (found : SomeViolation Queue (history_of records) ⊎ NoViolation Queue (history_of records)) → SmallOutput (excerpt_answer_of records found out)
     of_pattern records reads (inl (number, listed, first)) = writing_small (encode_log (excerpted records listed)) out (projection_short log records reads listed (values_of (history_of records) listed))
-    of_pattern records reads (inr clean) = omega arith
+    of_pattern records reads (inr clean) = (omega arith, omega arith)
 
     unless_pending : (b : Bool) (given : Result ℕ Refused) → SmallOutput given → SmallOutput (if b then refusing RemoveUnreturned 0 else given)
-    unless_pending true given small = omega arith
+    unless_pending true given small = (omega arith, omega arith)
     unless_pending false given small = small
 
     go : (reading : Reading) → read_log log ≡ reading → Within reading → SmallOutput (excerpt_answer reading out)
     go (readable records) reads few = unless_pending (has_pending_remove records) _ (of_pattern records reads (first_violation Queue (history_of records)))
-    go (refused refusal index) reads few = few.2
+    go (refused refusal index) reads few = (few.0, few.2)
 
 -- of what writes a page
 pub page_small : (log out : List ℕ) → Bytes log → SmallOutput (page_answer (read_log log) out)
@@ -170,29 +170,29 @@ page_small log out bytes = go (read_log log) refl (within log)
   where
     of_readable : (records : List Record) → read_log log ≡ readable records → (long : Bool) → ltb page_records (length records) ≡ long
         → SmallOutput (if long then refusing PageTooLong 0 else writing (page_of records) out)
-    of_readable records reads true e = omega arith
+    of_readable records reads true e = (omega arith, omega arith)
     of_readable records reads false e =
         writing_small (page_of records) out (omega (arith, page_short (readable_log log records reads) bytes (ltb-false page_records (length records) e)))
 
     go : (reading : Reading) → read_log log ≡ reading → Within reading → SmallOutput (page_answer reading out)
     go (readable records) reads few = of_readable records reads (ltb page_records (length records)) refl
-    go (refused refusal index) reads few = few.2
+    go (refused refusal index) reads few = (few.0, few.2)
 
 pub written_accepted : (n : ℕ) → SmallOutput (Ok n) → AcceptedWith (output_answer (Ok n)) n
 written_accepted n short = small_accepted n (omega (arith, short))
 
-pub refused_turned_down : (r : Refused) → SmallOutput (Err r) → TurnedDown (output_answer (Err r)) (number_of r.refusal) r.index
-refused_turned_down r small = refusal_turned_down r (omega (arith, small))
+pub refused_turned_down : (r : Refused) → SmallOutput (Err r) → TurnedDown (output_answer (Err r)) r.number r.index
+refused_turned_down r small = refusal_turned_down r small.0 (omega (arith, small.1))
 
 -- of judging
-refused_verdict_small : {refusal : Refusal} {index : ℕ} {sheet sheet' : List ℕ} {verdict : Verdict} → SmallRefusal (record { refusal = refusal; index = index })
+refused_verdict_small : {refusal : Refusal} {index : ℕ} {sheet sheet' : List ℕ} {verdict : Verdict} → SmallRefusal (told refusal index)
     → Judges (refused refusal index) sheet verdict sheet' → SmallVerdict verdict
 refused_verdict_small small Judge.turned_down = small
 
 pub judges_small : {reading : Reading} → Known reading → {sheet sheet' : List ℕ} (verdict : Verdict) → Judges reading sheet verdict sheet' → SmallVerdict verdict
-judges_small (standing refusal) verdict j = refused_verdict_small {refusal = refusal} (omega arith) j
+judges_small (standing refusal) verdict j = refused_verdict_small {refusal = refusal} ((numbered refusal).0, omega arith) j
 judges_small (of_log log) (Order k) j = judged_at_most log j Judge.order
-judges_small (of_log log) (Pattern found) j = judged_at_most log j Judge.pattern
+judges_small (of_log log) (Pattern number k) j = judged_at_most log j Judge.pattern
 judges_small (of_log log) (judge.Refused r) j = judged_refusal log j
 
 -- a refusal leaves the sheet as it was
@@ -204,15 +204,15 @@ refused_untouched (refused refusal i) Judge.turned_down e = refl
 -- the sheet is as it was.
 pub data JudgeSays (reading : Reading) (sheet : List ℕ) (answer : ℕ) (sheet' : List ℕ) : Type 0 where
   wrote : {verdict : Verdict} → Judge.Accepted verdict → Judges reading sheet verdict sheet' → AcceptedWith answer (sheet_bytes verdict) → JudgeSays reading sheet answer sheet'
-  turned_down : {r : Refused} → Judges reading sheet (judge.Refused r) sheet' → TurnedDown answer (number_of r.refusal) r.index → sheet' ≡ sheet → JudgeSays reading sheet answer sheet'
+  turned_down : {r : Refused} → Judges reading sheet (judge.Refused r) sheet' → TurnedDown answer r.number r.index → sheet' ≡ sheet → JudgeSays reading sheet answer sheet'
 
 pub judge_says : {reading : Reading} → Known reading → {sheet sheet' : List ℕ} {answer : ℕ} → JudgeAnswers reading sheet answer sheet' → JudgeSays reading sheet answer sheet'
 judge_says {reading} known {sheet} {sheet'} {answer} a = go a.verdict a.judges (judges_small known a.verdict a.judges) a.answers
   where
     go : (verdict : Verdict) → Judges reading sheet verdict sheet' → SmallVerdict verdict → answer ≡ judge_answer verdict → JudgeSays reading sheet answer sheet'
     go (Order k) j few e = wrote Judge.order j (rw e (small_accepted _ (omega (arith, few))))
-    go (Pattern found) j few e = wrote Judge.pattern j (rw e (small_accepted _ (omega (arith, few))))
-    go (judge.Refused r) j small e = turned_down j (rw e (refusal_turned_down r (omega (arith, small)))) (refused_untouched reading j refl)
+    go (Pattern number k) j few e = wrote Judge.pattern j (rw e (small_accepted _ (omega (arith, few))))
+    go (judge.Refused r) j small e = turned_down j (rw e (refusal_turned_down r small.0 (omega (arith, small.1)))) (refused_untouched reading j refl)
 
 -- A refusal leaves the buffer of a log that was to be written as it was,
 writing_untouched : (bytes out : List ℕ) {r : Refused} → writing bytes out ≡ Err r → written bytes out ≡ out
@@ -261,7 +261,7 @@ page_untouched (readable records) out {r} e = go (ltb page_records (length recor
 -- What the number of a call that writes a log or a page says: so many bytes were written, or the call was refused and the buffer is as it was.
 pub data OutputSays (given : Result ℕ Refused) (out : List ℕ) (answer : ℕ) (out' : List ℕ) : Type 0 where
   writes : {n : ℕ} → given ≡ Ok n → AcceptedWith answer n → OutputSays given out answer out'
-  refuses : {r : Refused} → given ≡ Err r → TurnedDown answer (number_of r.refusal) r.index → out' ≡ out → OutputSays given out answer out'
+  refuses : {r : Refused} → given ≡ Err r → TurnedDown answer r.number r.index → out' ≡ out → OutputSays given out answer out'
 
 output_says : (given : Result ℕ Refused) {out out' : List ℕ} {answer : ℕ} → SmallOutput given → answer ≡ output_answer given
     → ((r : Refused) → given ≡ Err r → out' ≡ out) → OutputSays given out answer out'

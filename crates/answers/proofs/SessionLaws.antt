@@ -6,7 +6,7 @@ use mathlib.Core.Bool.{Bool, true, false}
 use mathlib.Core.List.{List, [], ◌∷◌, ◌++◌, map}
 use lib.ListN.{length, drop}
 use Rattle.std.specs.Prelude.{Result, Ok, Err, if◌then◌else◌}
-use Rattle.record.specs.Refusal.{number_of, refusing}
+use Rattle.record.specs.Refusal.{number_of, told, refusing}
 use Rattle.record.specs.declared.refusal.Refusal.TheVariants.{BufferTooShort}
 use Rattle.record.specs.declared.refusal.Refused.{Refused}
 use Rattle.record.specs.Record.{encode, size_of}
@@ -40,7 +40,7 @@ begin_says {stage} {used} {stage'} {used'} {answer} {buffer} {buffer'} a = go (l
     go : (lacks : Bool) → answer ≡ output_answer (if lacks then refusing BufferTooShort 0 else Ok 3) → stage' ≡ stage_begun stage (if lacks then refusing BufferTooShort 0 else Ok 3)
         → used' ≡ used_begun used (if lacks then refusing BufferTooShort 0 else Ok 3) → buffer' ≡ (if lacks then buffer else empty_log ++ drop (length empty_log) buffer)
         → BeginSays stage used buffer stage' used' buffer' answer
-    go true e s u b = refuses (rw e (refusal_turned_down (record { refusal = BufferTooShort; index = 0 }) (omega arith))) s u b
+    go true e s u b = refuses (rw e (refusal_turned_down (told BufferTooShort 0) (omega arith) (omega arith))) s u b
     go false e s u b = begins (rw e (small_accepted 3 (omega arith))) s u b
 
 -- a feed writes at most the bytes of a record
@@ -55,7 +55,7 @@ feed_small stage used buffer bytes = go (feed_answer stage used buffer bytes) (f
 pub data FeedSays (stage used : ℕ) (buffer bytes : List ℕ) (stage' used' : ℕ) (buffer' : List ℕ) (answer : ℕ) : Type 0 where
   takes : feed_answer stage used buffer bytes ≡ Ok (length bytes) → AcceptedWith answer (length bytes) → stage' ≡ stage → used' ≡ used + length bytes
       → buffer' ≡ put used bytes (with_count (count_field buffer + 1) buffer) → FeedSays stage used buffer bytes stage' used' buffer' answer
-  refuses : {r : Refused} → feed_answer stage used buffer bytes ≡ Err r → TurnedDown answer (number_of r.refusal) r.index → stage' ≡ stage → used' ≡ used → buffer' ≡ buffer
+  refuses : {r : Refused} → feed_answer stage used buffer bytes ≡ Err r → TurnedDown answer r.number r.index → stage' ≡ stage → used' ≡ used → buffer' ≡ buffer
       → FeedSays stage used buffer bytes stage' used' buffer' answer
 
 pub feed_says : {stage used stage' used' answer : ℕ} {buffer bytes buffer' : List ℕ} → FeedAnswers stage used buffer bytes stage' used' buffer' answer → FeedSays stage used buffer bytes stage' used' buffer' answer
@@ -72,7 +72,7 @@ feed_says {stage} {used} {stage'} {used'} {answer} {buffer} {bytes} {buffer'} a 
 pub data CloseSays (stage used : ℕ) (buffer sheet : List ℕ) (stage' used' : ℕ) (sheet' : List ℕ) (answer : ℕ) : Type 0 where
   closes : {verdict : Verdict} → Judge.Accepted verdict → Judges (session_reading open_stage stage used buffer) sheet verdict sheet' → AcceptedWith answer (sheet_bytes verdict) → stage' ≡ closed_stage → used' ≡ used
       → CloseSays stage used buffer sheet stage' used' sheet' answer
-  refuses : {r : Refused} → Judges (session_reading open_stage stage used buffer) sheet (judge.Refused r) sheet' → TurnedDown answer (number_of r.refusal) r.index → stage' ≡ stage → used' ≡ used → sheet' ≡ sheet
+  refuses : {r : Refused} → Judges (session_reading open_stage stage used buffer) sheet (judge.Refused r) sheet' → TurnedDown answer r.number r.index → stage' ≡ stage → used' ≡ used → sheet' ≡ sheet
       → CloseSays stage used buffer sheet stage' used' sheet' answer
 
 pub close_says : {stage used stage' used' answer : ℕ} {buffer sheet sheet' : List ℕ} → CloseAnswers stage used buffer sheet stage' used' sheet' answer → CloseSays stage used buffer sheet stage' used' sheet' answer

@@ -24,7 +24,7 @@ replay_answer (Err r) = refusal r
 -- of judging: how many bytes the sheet has
 abbrev pub judge_answer : Verdict → ℕ
 judge_answer (Order k) = sheet_bytes (Order k)
-judge_answer (Pattern found) = sheet_bytes (Pattern found)
+judge_answer (Pattern number k) = sheet_bytes (Pattern number k)
 judge_answer (judge.Refused r) = refusal r
 
 -- A log, as it was read, is judged into a sheet: this number is answered, and this sheet is left.
@@ -34,9 +34,9 @@ pub record JudgeAnswers (reading : Reading) (sheet : List ℕ) (answer : ℕ) (s
   pub answers : answer ≡ judge_answer verdict
 
 -- What an answer holds is small, so that its number fits: operations and bytes are those of a log, a sheet lists at most 682
--- operations, and the index of a refusal is at most 1,024.
+-- operations, and the index of a refusal is at most 1,024. A refusal's number is at least 1, so that it is told from an accepted call.
 abbrev pub SmallRefusal : Refused → Type 0
-SmallRefusal r = r.index ≤ max_records
+SmallRefusal r = (1 ≤ r.number) × (r.index ≤ max_records)
 
 abbrev pub SmallCheck : Result Counts Refused → Type 0
 SmallCheck (Ok counts) = counts.operations ≤ max_records
@@ -48,7 +48,7 @@ SmallReplay (Err r) = SmallRefusal r
 
 abbrev pub SmallVerdict : Verdict → Type 0
 SmallVerdict (Order k) = k ≤ 682
-SmallVerdict (Pattern found) = found.listed ≤ 682
+SmallVerdict (Pattern number k) = k ≤ 682
 SmallVerdict (judge.Refused r) = SmallRefusal r
 
 abbrev pub SmallOutput : Result ℕ Refused → Type 0

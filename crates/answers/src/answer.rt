@@ -16,8 +16,7 @@ fn refuse(r: Refused) -> u64
     requires { r.index < refusal_unit }
     ensures { result ≡ refusal r }
 {
-    let number = r.refusal.number();
-    (number as u64) * REFUSAL_UNIT + r.index as u64
+    (r.number as u64) * REFUSAL_UNIT + r.index as u64
 }
 
 // The number of operations, or a refusal, as an answer.
@@ -50,7 +49,7 @@ pub fn judge_answer(v: Verdict) -> u64
 {
     match v {
         Verdict::Order(listed) => (SHEET_HEADER + 2 * listed) as u64,
-        Verdict::Pattern(found) => (SHEET_HEADER + 2 * found.listed) as u64,
+        Verdict::Pattern { listed, .. } => (SHEET_HEADER + 2 * listed) as u64,
         Verdict::Refused(r) => refuse(r),
     }
 }

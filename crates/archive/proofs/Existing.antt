@@ -23,7 +23,6 @@ use Rattle.violations.specs.Found.{FoundSettled}
 use Rattle.violations.proofs.Laws.{first_violation, first_violation_one, occurs_numbered, found_verdict}
 use Rattle.patterns.specs.Pattern.{number_of}
 use Rattle.patterns.specs.declared.pattern.Pattern as patterns
-use Rattle.patterns.specs.declared.find.Finding.{Finding}
 use Rattle.patterns.proofs.Numbered.{named}
 use Rattle.judge.specs.Judge.{byte_by, verdict_of, Delivers, Judges, judged}
 use Rattle.judge.specs.declared.judge.Verdict.TheVariants.{Pattern}
@@ -68,7 +67,7 @@ module _ (log : List ℕ) (records : List Record) (reads : read_log log ≡ read
           let pattern = named byte low high in
           shown pattern.0 pattern.1 (violations.Verdict.violation x none)
         where
-          by : {sheet left : List ℕ} {found : Finding} → Judges (read_log log) sheet (Pattern found) left → (b : Bool) → has_pending_remove records ≡ b
+          by : {sheet left : List ℕ} {number k : ℕ} → Judges (read_log log) sheet (Pattern number k) left → (b : Bool) → has_pending_remove records ≡ b
               → (sheet : List ℕ) × (excerpt : List ℕ) × Archive log sheet excerpt
           by j true pending = (_, _, sheet_alone j reads pending)
           by j false returned =

@@ -1,6 +1,6 @@
 -- What a call that writes into a lent buffer answers, and the number that its caller gets: "how many bytes it wrote", or a refusal.
 use Rattle.std.specs.Prelude.{ℕ, ◌+◌, ◌*◌, List, Result, Ok, Err, length, if◌then◌else◌}
-use Rattle.record.specs.Refusal.{number_of, refusing}
+use Rattle.record.specs.Refusal.{refusing}
 use Rattle.record.specs.declared.refusal.Refusal.TheVariants.{BufferTooShort}
 use Rattle.record.specs.declared.refusal.Refused.{Refused}
 use Rattle.buffer.specs.Buffer.{lacks_room}
@@ -14,7 +14,7 @@ abbrev pub refusal_unit : ℕ
 refusal_unit = 4294967296
 
 abbrev pub refusal : Refused → ℕ
-refusal r = number_of r.refusal * refusal_unit + r.index
+refusal r = r.number * refusal_unit + r.index
 
 -- the number of each answer
 abbrev pub output_answer : Result ℕ Refused → ℕ

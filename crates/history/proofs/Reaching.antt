@@ -9,7 +9,7 @@ use Rattle.record.specs.declared.record.Record.{Record}
 use Rattle.record.specs.declared.refusal.Refused.{Refused}
 use Rattle.reader.specs.Log.{read_log, checked}
 use Rattle.reader.specs.declared.log.Counts.{Counts}
-use Rattle.reader.proofs.Laws.{checked_readable, checked_refused}
+use Rattle.reader.proofs.Laws.{checked_readable, where_refused}
 use Rattle.history.specs.Batches.{Batched, Beside, PlaceFound}
 use Rattle.history.specs.declared.batches.Batch.{Batch}
 use Rattle.history.specs.declared.batches.Place.{Place}
@@ -59,4 +59,4 @@ whole_log {log} e f =
     record { records = read.0; reads = read.1; counted = read.2 }
 
 pub left_alone : (log : List ℕ) {answer : Result Counts Refused} {r : Refused} → answer ≡ checked (read_log log) → answer ≡ Err r → (table : List ℕ) → Tabulated (read_log log) table table
-left_alone log e f table = rw (checked_refused (read_log log) (sym e ∙ f)) refl
+left_alone log e f table = where_refused (read_log log) (sym e ∙ f) (λ reading r. Tabulated reading table table) (λ refusal index. refl)

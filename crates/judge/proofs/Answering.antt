@@ -6,14 +6,14 @@ use mathlib.Core.Bool.{false}
 use mathlib.Core.List.{List}
 use lib.ListN.{length, take}
 use borrow.Author.Tests.{lt-ltb, le-ltb}
-use Rattle.std.specs.Prelude.{Option, Result, Ok, Err}
-use Rattle.record.specs.Refusal.{refusing}
+use Rattle.std.specs.Prelude.{Option, Result, Err}
+use Rattle.record.specs.Refusal.{told}
 use Rattle.record.specs.declared.refusal.Refusal.TheVariants.{BufferTooShort}
 use Rattle.record.specs.declared.refusal.Refused.{Refused}
 use Rattle.buffer.specs.Buffer.{lacks_room, written}
 use Rattle.reader.specs.Log.{read_log, checked}
 use Rattle.reader.specs.declared.log.Counts.{Counts}
-use Rattle.reader.proofs.Laws.{readable_log, checked_refused}
+use Rattle.reader.proofs.Laws.{readable_log, where_refused}
 use Rattle.history.specs.Object.{Queue}
 use Rattle.history.specs.History.{Lone}
 use Rattle.history.specs.Sheet.{sheet_of}
@@ -40,7 +40,7 @@ tabled_lone {log} t = agree_lone (agree_sym t.agree) (history_lone (readable_log
 
 -- a verdict is delivered
 module _ (found : Option patterns.Pattern) (listed sheet : List ℕ) where
-  pub delivers_nothing : length sheet < 4 + 2 * length listed → Delivers found listed sheet (judge.Refused (record { refusal = BufferTooShort; index = 0 })) sheet
+  pub delivers_nothing : length sheet < 4 + 2 * length listed → Delivers found listed sheet (judge.Refused (told BufferTooShort 0)) sheet
   delivers_nothing short =
       let lacks = lt-ltb (length sheet) (length (sheet_of (byte_by found) listed)) (omega (arith, sheet_length (byte_by found) listed)) in
       record { answers = rw lacks refl; leaves = rw lacks refl }
@@ -65,4 +65,4 @@ log_judged {log} {k = k} {found = found} {list = list} t decided delivers = rw t
 
 -- any other is refused
 pub log_refused : (log sheet : List ℕ) {answer : Result Counts Refused} {r : Refused} → answer ≡ checked (read_log log) → answer ≡ Err r → Judges (read_log log) sheet (judge.Refused r) sheet
-log_refused log sheet e f = rw (checked_refused (read_log log) (sym e ∙ f)) turned_down
+log_refused log sheet e f = where_refused (read_log log) (sym e ∙ f) (λ reading r. Judges reading sheet (judge.Refused r) sheet) (λ refusal index. turned_down)

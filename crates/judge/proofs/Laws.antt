@@ -7,8 +7,8 @@ use mathlib.Core.List.{List, ◌++◌}
 use lib.ListN.{length, take, drop}
 use lib.Seq.{take-append_seam, drop-append_seam}
 use borrow.Author.Tests.{ltb-true}
-use Rattle.std.specs.Prelude.{Option, Some, None, Result, Ok, Err, if◌then◌else◌}
-use Rattle.record.specs.Refusal.{refusing}
+use Rattle.std.specs.Prelude.{Option, Some, None, if◌then◌else◌}
+use Rattle.record.specs.Refusal.{told}
 use Rattle.record.specs.declared.refusal.Refusal.TheVariants.{BufferTooShort}
 use Rattle.record.specs.declared.refusal.Refused.{Refused}
 use Rattle.record.specs.declared.record.Record.{Record}
@@ -49,7 +49,7 @@ pub record TooShort (records : List Record) (r : Refused) (sheet sheet' : List �
   pub byte : ℕ
   pub verdict : violations.Verdict Queue (history_of records) byte listed
   pub short : length sheet < sheet_header + 2 * length listed
-  pub refusal_is : r ≡ record { refusal = BufferTooShort; index = 0 }
+  pub refusal_is : r ≡ told BufferTooShort 0
   pub untouched : sheet' ≡ sheet
 
 -- a verdict is no refusal
@@ -61,7 +61,7 @@ module _ {records : List Record} {sheet sheet' : List ℕ} where
   -- the answer to a verdict that is delivered, by whether there is room
   shown : (found : Option patterns.Pattern) {listed : List ℕ} → violations.Verdict Queue (history_of records) (byte_by found) listed
       → (byte_by found ≡ order_verdict → FoundSettled (history_of records) listed) → {answer : Verdict} → Accepted answer
-      → (lacks : Bool) → lacks_room (sheet_of (byte_by found) listed) sheet ≡ lacks → answer ≡ (if lacks then judge.Refused (record { refusal = BufferTooShort; index = 0 }) else (verdict_of found (length listed)))
+      → (lacks : Bool) → lacks_room (sheet_of (byte_by found) listed) sheet ≡ lacks → answer ≡ (if lacks then judge.Refused (told BufferTooShort 0) else (verdict_of found (length listed)))
       → sheet' ≡ (if lacks then sheet else sheet_of (byte_by found) listed ++ drop (length (sheet_of (byte_by found) listed)) sheet) → Shown records answer sheet sheet'
   shown found verdict chosen order true l e w = cc
   shown found verdict chosen pattern true l e w = cc
@@ -91,7 +91,7 @@ module _ {records : List Record} {sheet sheet' : List ℕ} where
   pub judged_too_short : {r : Refused} → Judgement records sheet (judge.Refused r) sheet' → TooShort records r sheet sheet'
   judged_too_short {r} j = go (lacks_room (sheet_of (byte_by j.found) j.listed) sheet) refl j.delivers.answers j.delivers.leaves
     where
-      go : (lacks : Bool) → lacks_room (sheet_of (byte_by j.found) j.listed) sheet ≡ lacks → judge.Refused r ≡ (if lacks then judge.Refused (record { refusal = BufferTooShort; index = 0 }) else (verdict_of j.found (length j.listed)))
+      go : (lacks : Bool) → lacks_room (sheet_of (byte_by j.found) j.listed) sheet ≡ lacks → judge.Refused r ≡ (if lacks then judge.Refused (told BufferTooShort 0) else (verdict_of j.found (length j.listed)))
           → sheet' ≡ (if lacks then sheet else sheet_of (byte_by j.found) j.listed ++ drop (length (sheet_of (byte_by j.found) j.listed)) sheet) → TooShort records r sheet sheet'
       go true l e w = record {
         listed = j.listed;
@@ -149,7 +149,7 @@ long_enough log {records} reads long j = go long (rw reads at j)
   where
     go : {sheet sheet' : List ℕ} {answer : Verdict} → 1368 ≤ length sheet → Judges (readable records) sheet answer sheet' → Accepted answer
     go {answer = Order k} long j = order
-    go {answer = Pattern found} long j = pattern
+    go {answer = Pattern number k} long j = pattern
     go {answer = judge.Refused r} long (judged j) = let short = judged_too_short j in absurd (omega (arith, short.short, verdict_at_most log reads short.verdict))
 
 -- The numbers in an answer for a log are small.
@@ -160,9 +160,9 @@ judged_at_most log j accepted = go (read_log log) refl j accepted
     go (readable records) reads (judged j) accepted = let shown = judged_shows j accepted in omega (arith, verdict_at_most log reads shown.verdict, shown.counted)
     go (refused refusal index) reads turned_down accepted = absurd (accepted_not_refused accepted refl)
 
-pub judged_refusal : (log : List ℕ) {sheet sheet' : List ℕ} {r : Refused} → Judges (read_log log) sheet (judge.Refused r) sheet' → r.index ≤ max_records
+pub judged_refusal : (log : List ℕ) {sheet sheet' : List ℕ} {r : Refused} → Judges (read_log log) sheet (judge.Refused r) sheet' → (1 ≤ r.number) × (r.index ≤ max_records)
 judged_refusal log j = go (read_log log) (within log) j refl
   where
-    go : (reading : Reading) → Within reading → {sheet sheet' : List ℕ} {answer : Verdict} {r : Refused} → Judges reading sheet answer sheet' → answer ≡ judge.Refused r → r.index ≤ max_records
-    go (readable records) few (judged j) e = let short = judged_too_short (rw e at j) in rw (ap (λ (r : Refused). r.index) short.refusal_is) (omega arith)
-    go (refused refusal i) few {r = r} turned_down e = let same : record { refusal = refusal; index = i } ≡ r = cc in rw (ap (λ (r : Refused). r.index) (sym same)) few.2
+    go : (reading : Reading) → Within reading → {sheet sheet' : List ℕ} {answer : Verdict} {r : Refused} → Judges reading sheet answer sheet' → answer ≡ judge.Refused r → (1 ≤ r.number) × (r.index ≤ max_records)
+    go (readable records) few (judged j) e = let short = judged_too_short (rw e at j) in rw short.refusal_is (omega arith, omega arith)
+    go (refused refusal i) few {r = r} turned_down e = let same : r ≡ told refusal i = cc in rw same (few.0, few.2)

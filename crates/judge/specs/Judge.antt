@@ -3,7 +3,7 @@
 use Rattle.std.specs.Prelude.{ℕ, ◌+◌, ◌*◌, ◌≡◌, List, Option, Some, None, length, if◌then◌else◌}
 use Rattle.record.specs.declared.refusal.Refusal.{Refusal}
 use Rattle.record.specs.declared.refusal.Refusal.TheVariants.{BufferTooShort}
-use Rattle.record.specs.declared.refusal.Refused.{Refused}
+use Rattle.record.specs.Refusal.{told}
 use Rattle.record.specs.declared.record.Record.{Record}
 use Rattle.buffer.specs.Buffer.{lacks_room, written}
 use Rattle.reader.specs.Log.{Reading, readable, refused}
@@ -14,7 +14,6 @@ use Rattle.violations.specs.Verdict as violations
 use Rattle.violations.specs.Found.{FoundSettled}
 use Rattle.patterns.specs.Pattern.{number_of}
 use Rattle.patterns.specs.declared.pattern.Pattern as patterns
-use Rattle.patterns.specs.declared.find.Finding.{Finding}
 use Rattle.judge.specs.declared.judge.Verdict.{Verdict}
 use Rattle.judge.specs.declared.judge.Verdict.TheVariants as judge
 use Rattle.judge.specs.declared.judge.Verdict.TheVariants.{Order, Pattern}
@@ -26,36 +25,36 @@ byte_by None = order_verdict
 
 -- the answer for a pattern, or for an order if there is none, and how many operations it lists
 abbrev pub verdict_of : Option patterns.Pattern → ℕ → Verdict
-verdict_of (Some p) k = Pattern (record { pattern = p; listed = k })
+verdict_of (Some p) k = Pattern (number_of p) k
 verdict_of None k = Order k
 
 -- what an answer stands for: its verdict byte, 0 for an order or the pattern number; k, how many operations it lists; and how many bytes its
 -- sheet has. A refusal has no sheet.
 abbrev pub byte_of : Verdict → ℕ
 byte_of (Order k) = order_verdict
-byte_of (Pattern found) = number_of found.pattern
+byte_of (Pattern number k) = number
 byte_of (judge.Refused r) = 0
 
 abbrev pub count_of : Verdict → ℕ
 count_of (Order k) = k
-count_of (Pattern found) = found.listed
+count_of (Pattern number k) = k
 count_of (judge.Refused r) = 0
 
 abbrev pub sheet_bytes : Verdict → ℕ
 sheet_bytes (Order k) = sheet_header + 2 * k
-sheet_bytes (Pattern found) = sheet_header + 2 * found.listed
+sheet_bytes (Pattern number k) = sheet_header + 2 * k
 sheet_bytes (judge.Refused r) = 0
 
 -- The answer is no refusal.
 pub data Accepted : Verdict → Type 0 where
   order : {k : ℕ} → Accepted (Order k)
-  pattern : {found : Finding} → Accepted (Pattern found)
+  pattern : {number k : ℕ} → Accepted (Pattern number k)
 
 -- A verdict is delivered into a lent sheet: the answer says what it is, and its sheet stands in the lent one, with what was behind it; or the answer
 -- is 24, and the lent sheet is as it was.
 pub record Delivers (found : Option patterns.Pattern) (listed sheet : List ℕ) (answer : Verdict) (sheet' : List ℕ) : Type 0 where
   pub answers : answer ≡ (if lacks_room (sheet_of (byte_by found) listed) sheet
-      then judge.Refused (record { refusal = BufferTooShort; index = 0 })
+      then judge.Refused (told BufferTooShort 0)
       else (verdict_of found (length listed)))
   pub leaves : sheet' ≡ written (sheet_of (byte_by found) listed) sheet
 
@@ -73,5 +72,4 @@ pub record Judgement (records : List Record) (sheet : List ℕ) (answer : Verdic
 -- record index, .. and writes nothing."
 pub data Judges : Reading → List ℕ → Verdict → List ℕ → Type 0 where
   judged : {records : List Record} {sheet sheet' : List ℕ} {answer : Verdict} → Judgement records sheet answer sheet' → Judges (readable records) sheet answer sheet'
-  turned_down : {refusal : Refusal} {index : ℕ} {sheet : List ℕ}
-      → Judges (refused refusal index) sheet (judge.Refused (record { refusal = refusal; index = index })) sheet
+  turned_down : {refusal : Refusal} {index : ℕ} {sheet : List ℕ} → Judges (refused refusal index) sheet (judge.Refused (told refusal index)) sheet

@@ -6,17 +6,16 @@ ghost use Rattle.judge.specs.Judge.{Judges, Delivers};
 use crate::decide::{Decision, decide};
 use history::operations::{TABLE, tabulate};
 use history::sheet::{SHEET_HEADER, write_sheet};
-use patterns::find::Finding;
 use patterns::pattern::Pattern;
 use reader::format::MAX_RECORDS;
 use record::refusal::{Refusal, Refused};
 
-// An order, with its length; a pattern, with how many operations it lists; or a refusal: of the log, of the sheet under 24 or, where a session is
-// judged, by how it stands. The operations stand on the sheet.
+// An order, with its length; a pattern, with its number and how many operations it lists; or a refusal: of the log, of the sheet under 24 or, where
+// a session is judged, by how it stands. The operations stand on the sheet.
 #[derive(Clone, Copy)]
 pub enum Verdict {
     Order(usize),
-    Pattern(Finding),
+    Pattern { number: u32, listed: usize },
     Refused(Refused),
 }
 
@@ -34,8 +33,9 @@ fn deliver(pattern: Option<Pattern>, listed: &[u32], sheet: &mut [u8]) -> Verdic
     }
     match pattern {
         Some(pattern) => {
-            write_sheet(pattern as u32, listed, sheet);
-            Verdict::Pattern(Finding { pattern, listed: k })
+            let number = pattern as u32;
+            write_sheet(number, listed, sheet);
+            Verdict::Pattern { number, listed: k }
         }
         None => {
             write_sheet(ORDER, listed, sheet);

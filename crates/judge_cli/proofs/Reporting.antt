@@ -10,7 +10,7 @@ use lib.Seq.{drop-drop}
 use lib.Dec.{ltb}
 use borrow.Author.Tests.{le-ltb, eq-eqb, ne_eqb}
 use Rattle.std.specs.Prelude.{Option, Some, None, Result, Ok}
-use Rattle.record.specs.Refusal.{number_of, refusing}
+use Rattle.record.specs.Refusal.{number_of, told}
 use Rattle.record.specs.declared.refusal.Refusal.{Refusal}
 use Rattle.record.specs.declared.refusal.Refused.{Refused}
 use Rattle.record.specs.Number.{bytes_of}
@@ -120,7 +120,7 @@ readable_reports log {records} {blank} {sheet} {answer} sized reads j = rw answe
     line_is = answers_verdict j.listed sheet are j.found
 
 -- a refused one
-refused_reports : {sheet : List ℕ} (refusal : Refusal) (index : ℕ) → Within (refused refusal index) → Reportable (refused refusal index) (judge.Refused (record { refusal = refusal; index = index })) sheet
+refused_reports : {sheet : List ℕ} (refusal : Refusal) (index : ℕ) → Within (refused refusal index) → Reportable (refused refusal index) (judge.Refused (told refusal index)) sheet
 refused_reports refusal index bound =
     record { on_sheet = tt; reports = refl; fits = omega (arith, refusal_short (number_of refusal) index (omega (arith, bound.1)) (omega (arith, bound.2))) }
 

@@ -1,11 +1,9 @@
 -- How the code writes a report from the judge's answer and sheet. What the program prints can be understood without this file.
 use Rattle.std.specs.Prelude.{ℕ, ◌+◌, ◌*◌, ◌≤◌, List, Result, Ok, Err, [], map, length}
-use Rattle.record.specs.Refusal.{number_of}
 use Rattle.record.specs.declared.refusal.Refused.{Refused}
 use Rattle.text.specs.Text.{decimal, spaced}
 use Rattle.reader.specs.Log.{max_records, Reading, readable, refused, operations}
 use Rattle.history.specs.Sheet.{sheet_header, numbers_from}
-use Rattle.patterns.specs.Pattern as patterns
 use Rattle.judge.specs.declared.judge.Verdict.{Verdict}
 use Rattle.judge.specs.declared.judge.Verdict.TheVariants as judge
 use Rattle.judge.specs.declared.judge.Verdict.TheVariants.{Order, Pattern}
@@ -31,11 +29,11 @@ listing sheet k = spaced (map decimal (numbers_from sheet sheet_header k))
 -- the line for the judge's answer, which left this sheet
 abbrev pub answer_line : Verdict → List ℕ → List ℕ
 answer_line (Order k) sheet = order_line (numbers_from sheet sheet_header k)
-answer_line (Pattern found) sheet = pattern_line (patterns.number_of found.pattern) (numbers_from sheet sheet_header found.listed)
-answer_line (judge.Refused r) sheet = refusal_line (number_of r.refusal) r.index
+answer_line (Pattern number k) sheet = pattern_line number (numbers_from sheet sheet_header k)
+answer_line (judge.Refused r) sheet = refusal_line r.number r.index
 
 -- the operations that the judge's answer lists are on the sheet
 abbrev pub OnSheet : Verdict → List ℕ → Type 0
 OnSheet (Order k) sheet = sheet_header + 2 * k ≤ length sheet
-OnSheet (Pattern found) sheet = sheet_header + 2 * found.listed ≤ length sheet
+OnSheet (Pattern number k) sheet = sheet_header + 2 * k ≤ length sheet
 OnSheet (judge.Refused r) sheet = Unit {0}

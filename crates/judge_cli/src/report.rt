@@ -99,14 +99,10 @@ fn put_answer(text: &mut [u8], at: usize, answer: Verdict, sheet: &[u8]) -> usiz
 {
     match answer {
         Verdict::Order(k) => put_order(text, at, sheet, k),
-        Verdict::Pattern(found) => {
-            let number = found.pattern as usize;
-            put_pattern(text, at, number, sheet, found.listed)
+        Verdict::Pattern { number, listed } => {
+            put_pattern(text, at, number as usize, sheet, listed)
         }
-        Verdict::Refused(r) => {
-            let number = r.refusal.number() as usize;
-            put_refusal(text, at, number, r.index)
-        }
+        Verdict::Refused(r) => put_refusal(text, at, r.number as usize, r.index),
     }
 }
 

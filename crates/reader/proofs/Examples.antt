@@ -8,25 +8,25 @@ use Rattle.record.specs.Record.{length_of, event_of, encode, decode_at}
 use Rattle.record.specs.declared.record.Removed.TheVariants.{Value, Empty}
 use Rattle.record.specs.declared.record.Event.TheVariants.{CallRemove, ReturnRemove}
 use Rattle.std.specs.Prelude.{Result, Ok, Err}
-use Rattle.record.specs.Refusal.{told}
+use Rattle.record.specs.declared.refusal.Refused.{Refused}
 use Rattle.reader.specs.Log.{Reading, pending_kind, returned_at, pending_remove, added_values, event_fault, fault, scan, read_partial, read_log, operations, checked, encode_all, encode_log}
 use Rattle.table.specs.Table.{is_in}
 use Rattle.reader.specs.declared.log.Counts.{Counts}
 
 pub record Example : Type 0 where
   pub log : List ℕ
-  pub answer : Result Counts (ℕ × ℕ)
+  pub answer : Result Counts Refused
 
-abbrev counted : ℕ → ℕ → Result Counts (ℕ × ℕ)
+abbrev counted : ℕ → ℕ → Result Counts Refused
 counted records operations = Ok (record { records = records; operations = operations })
 
-abbrev refused : ℕ → ℕ → Result Counts (ℕ × ℕ)
-refused number index = Err (number, index)
+abbrev refused : ℕ → ℕ → Result Counts Refused
+refused number index = Err (record { number = number; index = index })
 
 -- what is answered where logs are read in this way
 abbrev pub Hold : (List ℕ → Reading) → List Example → Type 0
 Hold read [] = Unit {0}
-Hold read (e ∷ es) = (told (checked (read e.log)) ≡ e.answer) × Hold read es
+Hold read (e ∷ es) = (checked (read e.log) ≡ e.answer) × Hold read es
 
 abbrev pub examples : List Example
 examples =

@@ -1,7 +1,7 @@
 -- The laws of a readable log, for everything above the reader. specs/Readable.antt says what each part means.
 use Prim.Native.Nat.{ℕ, ◌+◌, ◌≤◌, ◌<◌}
 use native.Mathlib.Omega.{arith}
-use mathlib.Core.Path.{◌≡◌, refl, ap}
+use mathlib.Core.Path.{subst, ◌≡◌, refl, ap}
 use mathlib.Core.Bool.{Bool, true, false}
 use mathlib.Core.Logic.{◌⊎◌, inl, inr}
 use mathlib.Core.List.{List, [], ◌++◌}
@@ -9,6 +9,8 @@ use lib.ListN.{length, length-reverse}
 use lib.Dec.{ltb}
 use borrow.Author.Tests.{ltb-false}
 use Rattle.std.specs.Prelude.{Ok, Err, if◌then◌else◌}
+use Rattle.record.specs.Refusal.{told}
+use Rattle.record.specs.declared.refusal.Refusal.{Refusal}
 use Rattle.record.specs.declared.refusal.Refusal.TheVariants.{RemovePending}
 use Rattle.record.specs.declared.record.Record.{Record}
 use Rattle.reader.specs.Log.{max_records, encode_log, Reading, readable, refused, second_remove, read_partial, complete, read_log, operations, checked}
@@ -89,9 +91,15 @@ checked_readable (readable records) {counts} e =
     (records, refl, ap (λ (c : Counts). c.records) same, ap (λ (c : Counts). c.operations) same)
 checked_readable (refused refusal index) e = cc
 
-pub checked_refused : (reading : Reading) {r : Refused} → checked reading ≡ Err r → reading ≡ refused r.refusal r.index
-checked_refused (readable records) e = cc
-checked_refused (refused refusal index) {r} e = let same : record { refusal = refusal; index = index } ≡ r = cc in ap (λ (r : Refused). refused r.refusal r.index) same
+-- what holds of every refused reading, and of what is told of it, holds where a check answers with a refusal
+pub where_refused : (reading : Reading) {r : Refused} → checked reading ≡ Err r → (Holds : Reading → Refused → Type 0)
+    → ((refusal : Refusal) (index : ℕ) → Holds (refused refusal index) (told refusal index)) → Holds reading r
+where_refused (readable records) e Holds all = cc
+where_refused (refused refusal index) {r} e Holds all = let same : told refusal index ≡ r = cc in subst (Holds (refused refusal index)) same (all refusal index)
+
+pub checked_refused : (reading : Reading) {r : Refused} → checked reading ≡ Err r → (refusal : Refusal) × (index : ℕ) × (reading ≡ refused refusal index) × (r ≡ told refusal index)
+checked_refused reading e =
+    where_refused reading e (λ reading r. (refusal : Refusal) × (index : ℕ) × (reading ≡ refused refusal index) × (r ≡ told refusal index)) (λ refusal index. (refusal, index, refl, refl))
 
 -- a record has a next one of its client, or no later one
 pub follows : (records : List Record) (i : ℕ) → ((j : ℕ) × Next records i j) ⊎ ((k : ℕ) → i < k → k < length records → (record_of records k).client ≡ (record_of records i).client → ⊥)

@@ -11,7 +11,7 @@ use Rattle.std.specs.Prelude.{Option, Some, None, unwrap_or, Result, Ok, Err, if
 use borrow.Author.Tests.{lt-ltb, le-ltb, lt-leb, le-leb, eq-eqb, ne_eqb, ltb-false}
 use Rattle.record.specs.Record.{decode_at}
 use Rattle.record.specs.declared.record.Record.{Record}
-use Rattle.record.specs.Refusal.{refusing}
+use Rattle.record.specs.Refusal.{refusing, told}
 use Rattle.record.specs.declared.refusal.Refusal.{Refusal}
 use Rattle.record.specs.declared.refusal.Refusal.TheVariants.{WrongBytes, WrongVersion, TooManyRecords, SessionFull}
 use Rattle.record.specs.declared.refusal.Refused.{Refused}
@@ -130,11 +130,9 @@ passed_all {log} {count} {t = t} passed e = go (rw e at passed)
     go : Passed log count (Ok tt) t → AllKept log count t
     go (through all) = all
 
-pub passed_not : {log : List ℕ} {count : ℕ} {r : Result (Unit {0}) Refused} {e : Refused} {t : Tables} → Passed log count r t → r ≡ Err e → scan log count header_length [] ≡ refused e.refusal e.index
-passed_not {log} {count} {e = e} {t} passed is = go (rw is at passed)
-  where
-    go : Passed log count (Err e) t → scan log count header_length [] ≡ refused e.refusal e.index
-    go (stopped refusal) = refusal
+pub passed_not : {log : List ℕ} {count : ℕ} {r : Result (Unit {0}) Refused} {e : Refused} {t : Tables} → Passed log count r t → r ≡ Err e → surveyed (scan log count header_length []) ≡ Err e
+passed_not {e = e} (stopped {refusal} {index} reads) is = let same : told refusal index ≡ e = cc in rw (reads, same) refl
+passed_not (through all) is = cc
 
 -- the answer of a scan
 abbrev pub survey : ℕ → ℕ → Option ℕ → Result Survey Refused

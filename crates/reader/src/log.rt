@@ -38,7 +38,7 @@ pub fn check(log: &[u8]) -> Result<Counts, Refused>
     let survey = read_partial(log)?;
     if let Some(index) = survey.second_remove {
         return Err(Refused {
-            refusal: Refusal::RemovePending,
+            number: Refusal::RemovePending.number(),
             index,
         });
     }

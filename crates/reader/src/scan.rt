@@ -171,13 +171,15 @@ impl Tables {
         ensures { Passed log.now count result self.new }
     {
         for i in 0..count {
-            self.read_record(log, i)
-                .map_err(|refusal| Refused { refusal, index: i })?;
+            self.read_record(log, i).map_err(|refusal| Refused {
+                number: refusal.number(),
+                index: i,
+            })?;
         }
         let at = self.at;
         if at < log.len() {
             return Err(Refused {
-                refusal: Refusal::WrongBytes,
+                number: Refusal::WrongBytes.number(),
                 index: count,
             });
         }
@@ -239,7 +241,7 @@ pub(crate) fn extend_records(log: &[u8], count: usize, bytes: &[u8]) -> Result<u
     tables
         .fault_behind(bytes, count)
         .map_err(|refusal| Refused {
-            refusal,
+            number: refusal.number(),
             index: count,
         })?;
     Ok(count)

@@ -1,6 +1,6 @@
 -- From what the parts of replay find out to its answer.
 use Prim.Native.Nat.{ℕ, ◌+◌}
-use mathlib.Core.Path.{◌≡◌, sym, ◌∙◌}
+use mathlib.Core.Path.{◌≡◌, refl, sym, ◌∙◌}
 use mathlib.Core.Bool.{Bool, true, false}
 use mathlib.Core.List.{List}
 use Rattle.std.specs.Prelude.{Result, Ok, Err}
@@ -9,7 +9,7 @@ use Rattle.record.specs.declared.refusal.Refusal.TheVariants.{WrongSheet}
 use Rattle.record.specs.declared.refusal.Refused.{Refused}
 use Rattle.reader.specs.Log.{read_log, checked}
 use Rattle.reader.specs.declared.log.Counts.{Counts}
-use Rattle.reader.proofs.Laws.{checked_refused}
+use Rattle.reader.proofs.Laws.{where_refused}
 use Rattle.history.specs.Answers.{Decides}
 use Rattle.history.specs.Object.{Queue}
 use Rattle.history.specs.Linearization.{Linearization}
@@ -18,12 +18,12 @@ use Rattle.history.specs.Table.{tabled}
 use Rattle.history.proofs.Agreeing.{agree_sym, agree_linearization}
 use Rattle.history.proofs.Tabulating.{Tabled}
 use Rattle.replay.specs.Replay.{replayed}
-use Rattle.replay.proofs.Laws.{legal_is_yes, other_is_no, form_is_refused, log_refused_first}
+use Rattle.replay.proofs.Laws.{legal_is_yes, other_is_no, form_is_refused}
 
 -- the log is refused
 pub log_refused : (log sheet : List ℕ) {answer : Result Counts Refused} {r : Refused} → answer ≡ checked (read_log log) → answer ≡ Err r
     → Err r ≡ replayed (read_log log) sheet
-log_refused log sheet {r = r} e f = sym (log_refused_first log sheet r (checked_refused (read_log log) (sym e ∙ f)))
+log_refused log sheet e f = where_refused (read_log log) (sym e ∙ f) (λ reading r. Err r ≡ replayed reading sheet) (λ refusal index. refl)
 
 module _ {log : List ℕ} {count size : ℕ} {table : List ℕ} (t : Tabled log count size table) (sheet : List ℕ) where
   -- the sheet is refused

@@ -21,7 +21,8 @@ use Rattle.history.proofs.Counting.{ordering_short}
 use Rattle.history.proofs.Deciding.{linearization?}
 use Rattle.history.proofs.Forms.{sheet_by_length}
 use Rattle.history.proofs.Sheets.{sheet_length, sheet_lists, listed_length}
-use Rattle.record.specs.Refusal.{refusing}
+use Rattle.record.specs.Refusal.{max_refusal, told, refusing}
+use Rattle.record.specs.declared.refusal.Refusal.{Refusal}
 use Rattle.record.specs.declared.refusal.Refusal.TheVariants.{WrongSheet}
 use Rattle.record.specs.declared.refusal.Refused.{Refused}
 use Rattle.record.proofs.Refusals.{numbered}
@@ -89,10 +90,10 @@ other_is_no log sheet order = rw order.reads (by (outcome order.records sheet))
 
 -- Of a readable log it refuses exactly a sheet of another form, under 11 and with index 0.
 module _ (log sheet : List ℕ) (records : List Record) (reads : read_log log ≡ readable records) where
-  pub refused_is_form : {r : Refused} → replayed (read_log log) sheet ≡ Err r → (is_order_sheet sheet ≡ false) × (r ≡ record { refusal = WrongSheet; index = 0 })
+  pub refused_is_form : {r : Refused} → replayed (read_log log) sheet ≡ Err r → (is_order_sheet sheet ≡ false) × (r ≡ told WrongSheet 0)
   refused_is_form {r} e = let e' : replayed (readable records) sheet ≡ Err r = rw reads at e in by e' (outcome records sheet)
     where
-      by : replayed (readable records) sheet ≡ Err r → Outcome records sheet → (is_order_sheet sheet ≡ false) × (r ≡ record { refusal = WrongSheet; index = 0 })
+      by : replayed (readable records) sheet ≡ Err r → Outcome records sheet → (is_order_sheet sheet ≡ false) × (r ≡ told WrongSheet 0)
       by e (legal form l r) = cc
       by e (other form n r) = cc
       by e (formless form r) = (form, cc)
@@ -101,8 +102,8 @@ module _ (log sheet : List ℕ) (records : List Record) (reads : read_log log �
   form_is_refused form = rw (reads, form) refl
 
 -- A log that is refused is refused under the same number, whatever the sheet is.
-pub log_refused_first : (log sheet : List ℕ) (r : Refused) → read_log log ≡ refused r.refusal r.index → replayed (read_log log) sheet ≡ Err r
-log_refused_first log sheet r e = rw e refl
+pub log_refused_first : (log sheet : List ℕ) (refusal : Refusal) (index : ℕ) → read_log log ≡ refused refusal index → replayed (read_log log) sheet ≡ refusing refusal index
+log_refused_first log sheet refusal index e = rw e refl
 
 -- Any order that fits on a sheet can be written on one and replayed: the answer is yes exactly if it is legal.
 module _ (order : List ℕ) (few : length order < 65536) (small : (i : ℕ) → get_or order i 0 < 65536) where
@@ -144,13 +145,10 @@ linearization_replays log records e order l = (sheet_lists order_verdict order s
 
 -- a refusal is within the same bounds as one of a log
 pub replay_within : (log sheet : List ℕ) {r : Refused} → replayed (read_log log) sheet ≡ Err r
-    → Within (refused r.refusal r.index)
+    → (1 ≤ r.number) × (r.number ≤ max_refusal) × (r.index ≤ max_records)
 replay_within log sheet {r} e = go (read_log log) refl (within log) e
   where
-    bounded : {index : ℕ} → index ≤ max_records → r.index ≡ index → Within (refused r.refusal r.index)
-    bounded h is = ((numbered r.refusal).0, (numbered r.refusal).1, rw is h)
-
     go : (reading : Reading) → read_log log ≡ reading → Within reading → replayed reading sheet ≡ Err r
-        → Within (refused r.refusal r.index)
-    go (readable records) reads w e = let form = refused_is_form log sheet records reads {r = r} (rw reads e) in bounded (lit≤ tt) (ap (λ (r : Refused). r.index) form.1)
-    go (refused refusal i) reads w e = let same : record { refusal = refusal; index = i } ≡ r = cc in bounded w.2 (ap (λ (r : Refused). r.index) (sym same))
+        → (1 ≤ r.number) × (r.number ≤ max_refusal) × (r.index ≤ max_records)
+    go (readable records) reads w e = let form = refused_is_form log sheet records reads {r = r} (rw reads e) in rw form.1 (lit≤ tt, lit≤ tt, lit≤ tt)
+    go (refused refusal i) reads w e = let same : r ≡ told refusal i = cc in rw same w

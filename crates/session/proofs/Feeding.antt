@@ -101,7 +101,7 @@ module _ {buffer : List ℕ} where
     where
       by_answer : Holding s g.fed (rest buffer g.fed) → (answer : Verdict) → Judges (read_log (encode_log g.fed)) sheet answer left → Stands (after_close s answer) g.fed (rest buffer g.fed)
       by_answer h (judge.Order k) j = closed_with refl (holding_same h (sym h.stage_is) refl refl) (judged_readable (encode_log g.fed) (judge.Order k) j refl (written_log g.fed h.few h.writable))
-      by_answer h (judge.Pattern found) j = closed_with refl (holding_same h (sym h.stage_is) refl refl) (judged_readable (encode_log g.fed) (judge.Pattern found) j refl (written_log g.fed h.few h.writable))
+      by_answer h (judge.Pattern number k) j = closed_with refl (holding_same h (sym h.stage_is) refl refl) (judged_readable (encode_log g.fed) (judge.Pattern number k) j refl (written_log g.fed h.few h.writable))
       by_answer h (judge.Refused r) j = open_with (holding_same h refl refl refl)
 
       go : Stands s g.fed (rest buffer g.fed) → Stands (after_close s answer) g.fed (rest buffer g.fed)

@@ -6,8 +6,7 @@ use mathlib.Core.Bool.{true}
 use mathlib.Core.List.{List, [], ◌++◌, map}
 use lib.ListN.{length, take, drop, length-append, length-drop}
 use lib.Seq.{take-append_seam, drop-append_seam, drop-drop}
-use Rattle.std.specs.Prelude.{Result, Ok}
-use Rattle.record.specs.declared.refusal.Refused.{Refused}
+use Rattle.std.specs.Prelude.{Ok}
 use Rattle.record.specs.Number.{bytes_of, Bytes}
 use Rattle.record.specs.Record.{encode, size_of}
 use Rattle.record.specs.declared.record.Record.{Record}
@@ -16,7 +15,6 @@ use Rattle.reader.specs.Readable.{sizes}
 use Rattle.reader.proofs.Laws.{partial_log, written_log}
 use Rattle.judge.specs.Judge.{sheet_bytes, Judges}
 use Rattle.judge.specs.declared.judge.Verdict.{Verdict}
-use Rattle.patterns.specs.declared.find.Finding.{Finding}
 use Rattle.judge.specs.declared.judge.Verdict.TheVariants.{Order, Pattern}
 use Rattle.judge.proofs.Laws.{judged_determined}
 use Rattle.projection.specs.Outcome.{excerpt_answer, excerpt_leaves}
@@ -103,13 +101,13 @@ module _ {buffer : List ℕ} {fed : List (List ℕ)} {s : Lent} (since : Since b
     pub order_archived : {sheet left archived excerpt : List ℕ} {k : ℕ} → Judges reading sheet (Order k) left → Archive (log_of fed) archived excerpt → (take (sheet_bytes (Order k)) left ≡ archived) × ([] ≡ excerpt)
     order_archived writes archive = archive_one (with_order (rw reading_is at writes)) archive
 
-    pub pending_archived : {sheet left archived excerpt : List ℕ} {found : Finding} {records : List Record} → Judges reading sheet (Pattern found) left
+    pub pending_archived : {sheet left archived excerpt : List ℕ} {number k : ℕ} {records : List Record} → Judges reading sheet (Pattern number k) left
         → read_log (log_of fed) ≡ readable records → has_pending_remove records ≡ true → Archive (log_of fed) archived excerpt
-        → (take (sheet_bytes (Pattern found)) left ≡ archived) × ([] ≡ excerpt)
+        → (take (sheet_bytes (Pattern number k)) left ≡ archived) × ([] ≡ excerpt)
     pending_archived writes reads pending archive = archive_one (sheet_alone (rw reading_is at writes) reads pending) archive
 
-    pub pattern_archived : {sheet left archived excerpt : List ℕ} {found : Finding} {n : ℕ} → Judges reading sheet (Pattern found) left → (out : List ℕ) → excerpt_answer reading out ≡ Ok n → Archive (log_of fed) archived excerpt
-        → (take (sheet_bytes (Pattern found)) left ≡ archived) × (take n (excerpt_leaves reading out) ≡ excerpt)
+    pub pattern_archived : {sheet left archived excerpt : List ℕ} {number k n : ℕ} → Judges reading sheet (Pattern number k) left → (out : List ℕ) → excerpt_answer reading out ≡ Ok n → Archive (log_of fed) archived excerpt
+        → (take (sheet_bytes (Pattern number k)) left ≡ archived) × (take n (excerpt_leaves reading out) ≡ excerpt)
     pattern_archived {n = n} writes out wrote archive =
         let (answer, leaves) = excerpt_is out in
         let (sheets, excerpts) = archive_one (with_pattern (rw reading_is at writes) out (sym answer ∙ wrote)) archive in

@@ -99,5 +99,5 @@ used_fed used (Err r) = used
 -- Close: "Closing alters only the stage." A refused close leaves it.
 abbrev pub stage_closed : ℕ → Verdict → ℕ
 stage_closed stage (judge.Order k) = closed_stage
-stage_closed stage (judge.Pattern found) = closed_stage
+stage_closed stage (judge.Pattern number k) = closed_stage
 stage_closed stage (judge.Refused r) = stage

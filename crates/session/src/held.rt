@@ -61,7 +61,7 @@ pub fn stage_closed(stage: u32, answer: Verdict) -> u32
 {
     match answer {
         Verdict::Order(_) => CLOSED,
-        Verdict::Pattern(_) => CLOSED,
+        Verdict::Pattern { .. } => CLOSED,
         Verdict::Refused(_) => stage,
     }
 }

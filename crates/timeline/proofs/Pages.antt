@@ -19,7 +19,7 @@ use Rattle.text.specs.Text.{Puts}
 use Rattle.reader.specs.Log.{read_log, checked, operations}
 use Rattle.reader.specs.declared.log.Counts.{Counts}
 use Rattle.reader.specs.Readable.{ReadableLog}
-use Rattle.reader.proofs.Laws.{checked_refused, few_operations}
+use Rattle.reader.proofs.Laws.{where_refused, few_operations}
 use Rattle.history.specs.Operations.{call_index, history_of}
 use Rattle.history.specs.Table.{kind_at, value_at, TableOf}
 use Rattle.history.proofs.Along.{whole_readable}
@@ -58,7 +58,7 @@ span_lies records o h = go (dec_lt (return_index_of records o) (length records))
 -- a log that is refused has no page
 pub log_refused : (log out : List ℕ) {answer : Result Counts Refused} {r : Refused} → answer ≡ checked (read_log log) → answer ≡ Err r
     → (Err r ≡ page_answer (read_log log) out) × (out ≡ page_leaves (read_log log) out)
-log_refused log out e f = rw (checked_refused (read_log log) (sym e ∙ f)) (refl, refl)
+log_refused log out e f = where_refused (read_log log) (sym e ∙ f) (λ reading r. (Err r ≡ page_answer reading out) × (out ≡ page_leaves reading out)) (λ refusal index. (refl, refl))
 
 -- a log that is readable, and the table of its operations
 module _ {log : List ℕ} {n m : ℕ} {table : List ℕ} (known : TableOf log n m table) where

@@ -7,7 +7,6 @@ use lib.ListN.{replicate}
 use Rattle.record.specs.declared.record.Event.TheVariants.{CallAdd}
 use Rattle.record.specs.declared.record.Record.{Record}
 use Rattle.std.specs.Prelude.{Ok, Err}
-use Rattle.record.specs.Refusal.{told}
 use Rattle.text.specs.Text.{digits}
 use Rattle.reader.specs.Log.{readable, operations}
 use Rattle.history.specs.Each.{Each}
@@ -32,13 +31,13 @@ pages_drawn = rows_drawn pages refl refl
 abbrev records : ℕ → List Record
 records n = replicate n (record { client = 0; tick = 0; event = CallAdd 0 })
 
-pub answer_of_64 : told (page_answer (readable (records 64)) []) ≡ Err (30, 0)
+pub answer_of_64 : page_answer (readable (records 64)) [] ≡ Err (record { number = 30; index = 0 })
 answer_of_64 = refl
 
-pub answer_of_63 : told (page_answer (readable (records 63)) []) ≡ Err (24, 0)
+pub answer_of_63 : page_answer (readable (records 63)) [] ≡ Err (record { number = 24; index = 0 })
 unfolding operations call_index first_of digits joined
 answer_of_63 = refl
 
-pub answer_of_none : told (page_answer (readable (records 0)) []) ≡ Ok 0
+pub answer_of_none : page_answer (readable (records 0)) [] ≡ Ok 0
 unfolding operations joined
 answer_of_none = refl

@@ -17,7 +17,7 @@ pub overflow_add-result-in-Pattern : goal.overflow_add-result-in-Pattern
 overflow_add-result-in-Pattern c = omega (arith, rw c.in-Pattern.is at c.requires)
 
 pub refuse-requires : goal.refuse-requires
-refuse-requires c = let small = rw c.in-Refused.is at c.requires in omega (arith, small)
+refuse-requires c = let small = rw c.in-Refused.is at c.requires in omega (arith, small.1)
 
 pub returns-in-Order : goal.returns-in-Order
 returns-in-Order c = ap judge_answer (sym c.in-Order.is)

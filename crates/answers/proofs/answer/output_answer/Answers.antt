@@ -5,7 +5,7 @@ use Rattle.buffer.specs.Output.{output_answer}
 use Rattle.answers.proofs.answer.output_answer.Goals as goal
 
 pub refuse-requires : goal.refuse-requires
-refuse-requires c = let small = rw c.in-Err.is at c.requires in omega (arith, small)
+refuse-requires c = let small = rw c.in-Err.is at c.requires in omega (arith, small.1)
 
 pub returns-in-Err : goal.returns-in-Err
 returns-in-Err c = c.refuse.ensures ∙ ap output_answer (sym c.in-Err.is)

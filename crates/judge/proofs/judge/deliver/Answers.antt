@@ -10,7 +10,7 @@ returns-then-sheet-k c = let a = c.args in rw c.from.ensures (delivers_nothing a
 pub returns-in-Some : goal.returns-in-Some
 returns-in-Some c = let a = c.args in
     let p = c.in-Some.pattern in
-    rw c.in-Some.is (delivers_verdict (Some p) a.listed.now a.sheet.now c.if-sheet-k.false (rw (code_number p) at c.write_sheet.ensures))
+    rw (c.in-Some.is, code_number p) (delivers_verdict (Some p) a.listed.now a.sheet.now c.if-sheet-k.false (rw (code_number p) at c.write_sheet.ensures))
 
 pub returns-in-None : goal.returns-in-None
 returns-in-None c = let a = c.args in
