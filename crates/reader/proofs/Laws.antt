@@ -84,18 +84,18 @@ readable_log log records e =
 pub readable_is_partial : (log : List ℕ) (records : List Record) → read_log log ≡ readable records → read_partial log ≡ readable records
 readable_is_partial log records e = (completed (read_partial log) records e).0
 
+-- Where a check answers with a refusal, what holds of every refused reading and what is told of it holds.
+pub where_refused : (reading : Reading) {r : Refused} → checked reading ≡ Err r → (Holds : Reading → Refused → Type 0)
+    → ((refusal : Refusal) (index : ℕ) → Holds (refused refusal index) (told refusal index)) → Holds reading r
+where_refused (readable records) e Holds all = cc
+where_refused (refused refusal index) {r} e Holds all = let same : told refusal index ≡ r = cc in subst (Holds (refused refusal index)) same (all refusal index)
+
 -- what the answer of a check says of the reading behind it
 pub checked_readable : (reading : Reading) {counts : Counts} → checked reading ≡ Ok counts → (records : List Record) × (reading ≡ readable records) × (length records ≡ counts.records) × (operations records ≡ counts.operations)
 checked_readable (readable records) {counts} e =
     let same : record { records = length records; operations = operations records } ≡ counts = cc in
     (records, refl, ap (λ (c : Counts). c.records) same, ap (λ (c : Counts). c.operations) same)
 checked_readable (refused refusal index) e = cc
-
--- what holds of every refused reading, and of what is told of it, holds where a check answers with a refusal
-pub where_refused : (reading : Reading) {r : Refused} → checked reading ≡ Err r → (Holds : Reading → Refused → Type 0)
-    → ((refusal : Refusal) (index : ℕ) → Holds (refused refusal index) (told refusal index)) → Holds reading r
-where_refused (readable records) e Holds all = cc
-where_refused (refused refusal index) {r} e Holds all = let same : told refusal index ≡ r = cc in subst (Holds (refused refusal index)) same (all refusal index)
 
 pub checked_refused : (reading : Reading) {r : Refused} → checked reading ≡ Err r → (refusal : Refusal) × (index : ℕ) × (reading ≡ refused refusal index) × (r ≡ told refusal index)
 checked_refused reading e =

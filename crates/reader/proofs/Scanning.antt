@@ -11,7 +11,7 @@ use Rattle.std.specs.Prelude.{Option, Some, None, unwrap_or, Result, Ok, Err, if
 use borrow.Author.Tests.{lt-ltb, le-ltb, lt-leb, le-leb, eq-eqb, ne_eqb, ltb-false}
 use Rattle.record.specs.Record.{decode_at}
 use Rattle.record.specs.declared.record.Record.{Record}
-use Rattle.record.specs.Refusal.{refusing, told}
+use Rattle.record.specs.Refusal.{refusing}
 use Rattle.record.specs.declared.refusal.Refusal.{Refusal}
 use Rattle.record.specs.declared.refusal.Refusal.TheVariants.{WrongBytes, WrongVersion, TooManyRecords, SessionFull}
 use Rattle.record.specs.declared.refusal.Refused.{Refused}
@@ -124,15 +124,18 @@ module _ {bytes : List ℕ} {index : ℕ} {t : Tables} where
     behind_fault {r} e stands is = record { found = λ past kept len. rw (eq-eqb (length bytes) (get_or bytes 0 0 + 1) one, e) (is ∙ fault_found kept len stands) }
 
 -- the outcome of reading all records, by its case
-pub passed_all : {log : List ℕ} {count : ℕ} {r : Result (Unit {0}) Refused} {t : Tables} → Passed log count r t → r ≡ Ok tt → AllKept log count t
+pub passed_all : {log : List ℕ} {count : ℕ} {r : Result (Unit {0}) (Refusal × ℕ)} {t : Tables} → Passed log count r t → r ≡ Ok tt → AllKept log count t
 passed_all {log} {count} {t = t} passed e = go (rw e at passed)
   where
     go : Passed log count (Ok tt) t → AllKept log count t
     go (through all) = all
 
-pub passed_not : {log : List ℕ} {count : ℕ} {r : Result (Unit {0}) Refused} {e : Refused} {t : Tables} → Passed log count r t → r ≡ Err e → surveyed (scan log count header_length []) ≡ Err e
-passed_not {e = e} (stopped {refusal} {index} reads) is = let same : told refusal index ≡ e = cc in rw (reads, same) refl
-passed_not (through all) is = cc
+pub passed_not : {log : List ℕ} {count : ℕ} {r : Result (Unit {0}) (Refusal × ℕ)} {refusal : Refusal} {index : ℕ} {t : Tables} → Passed log count r t → r ≡ Err (refusal, index)
+    → refusing refusal index ≡ surveyed (scan log count header_length [])
+passed_not {log} {count} {refusal = refusal} {index} {t} passed is = go (rw is at passed)
+  where
+    go : Passed log count (Err (refusal, index)) t → refusing refusal index ≡ surveyed (scan log count header_length [])
+    go (stopped reads) = rw reads refl
 
 -- the answer of a scan
 abbrev pub survey : ℕ → ℕ → Option ℕ → Result Survey Refused

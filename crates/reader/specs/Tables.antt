@@ -132,10 +132,10 @@ pub record AllKept (log : List ℕ) (count : ℕ) (t : Tables) : Type 0 where
   pub kept : Kept past t
   pub reads : scan log count header_length [] ≡ readable (reverse past)
 
--- They have all been read, or the scan ends with this refusal.
-pub data Passed (log : List ℕ) (count : ℕ) : Result (Unit {0}) Refused → Tables → Type 0 where
+-- They have all been read, or the scan ends with this refusal, at the record with this index.
+pub data Passed (log : List ℕ) (count : ℕ) : Result (Unit {0}) (Refusal × ℕ) → Tables → Type 0 where
   through : {t : Tables} → AllKept log count t → Passed log count (Ok tt) t
-  stopped : {refusal : Refusal} {index : ℕ} {t : Tables} → scan log count header_length [] ≡ refused refusal index → Passed log count (refusing refusal index) t
+  stopped : {refusal : Refusal} {index : ℕ} {t : Tables} → scan log count header_length [] ≡ refused refusal index → Passed log count (Err (refusal, index)) t
 
 -- This is what is wrong with bytes that are handed in as one record behind those that the tables hold.
 pub record FaultBehind (bytes : List ℕ) (index : ℕ) (t : Tables) (fault : Result (Unit {0}) Refusal) : Type 0 where

@@ -165,23 +165,18 @@ impl Tables {
         Ok(())
     }
 
-    // Reads the records behind the header, `count` of them. What is known of them is then kept in the tables.
-    fn read_all(&mut self, log: &[u8], count: usize) -> Result<(), Refused>
+    // Reads the records behind the header, `count` of them: all are fine, or one is refused, with its index. What is known of them is then kept in
+    // the tables.
+    fn read_all(&mut self, log: &[u8], count: usize) -> Result<(), (Refusal, usize)>
         requires { (count ≤ max_records) × New self.old }
         ensures { Passed log.now count result self.new }
     {
         for i in 0..count {
-            self.read_record(log, i).map_err(|refusal| Refused {
-                number: refusal.number(),
-                index: i,
-            })?;
+            self.read_record(log, i).map_err(|refusal| (refusal, i))?;
         }
         let at = self.at;
         if at < log.len() {
-            return Err(Refused {
-                number: Refusal::WrongBytes.number(),
-                index: count,
-            });
+            return Err((Refusal::WrongBytes, count));
         }
         Ok(())
     }
@@ -209,7 +204,10 @@ pub(crate) fn read_records(log: &[u8], count: usize) -> Result<Survey, Refused>
     ensures { result ≡ surveyed (scan log.now count header_length []) }
 {
     let mut tables = Tables::new();
-    tables.read_all(log, count)?;
+    tables.read_all(log, count).map_err(|(refusal, index)| Refused {
+        number: refusal.number(),
+        index,
+    })?;
     let counts = Counts {
         records: count,
         operations: tables.operations,

@@ -23,7 +23,7 @@ pub returns-in-Order : goal.returns-in-Order
 returns-in-Order c = ap judge_answer (sym c.in-Order.is)
 
 pub returns-in-Pattern : goal.returns-in-Pattern
-returns-in-Pattern c = ap judge_answer (sym c.in-Pattern.is)
+returns-in-Pattern c = omega (arith, ap judge_answer c.in-Pattern.is)
 
 pub returns-in-Refused : goal.returns-in-Refused
 returns-in-Refused c = c.refuse.ensures ∙ ap judge_answer (sym c.in-Refused.is)

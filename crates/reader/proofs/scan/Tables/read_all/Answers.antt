@@ -3,7 +3,6 @@
 use Prim.Native.Nat.{◌<◌}
 use mathlib.Core.Path.{◌≡◌}
 use Rattle.std.proofs.Common.{rules, Err}
-use Rattle.record.specs.Refusal.{told}
 use Rattle.record.specs.declared.refusal.Refusal.{Refusal}
 use native.Mathlib.Omega.{arith}
 use Rattle.reader.specs.Tables.{through, stopped}
@@ -19,11 +18,11 @@ read_record-requires c = let below : c.loop-i.i-counter < 1024 = omega (arith, c
 pub returns-in_err-map_err : goal.returns-in_err-map_err
 returns-in_err-map_err c =
     let same : c.from_residual.result ≡ Err c.in_err-map_err.field-0.0 = search rules in
-    let was : (refusal : Refusal) × (c.read_record.result ≡ Err refusal) × (c.in_err-map_err.field-0.0 ≡ told refusal c.loop-i.i-counter) = search rules in
+    let was : (refusal : Refusal) × (c.read_record.result ≡ Err refusal) × (c.in_err-map_err.field-0.0 ≡ (refusal, c.loop-i.i-counter)) = search rules in
     rw (same, was.2) (stopped (loop_stops c.loop-i.invariant c.loop-i-test.true c.read_record.ensures was.1))
 
 pub returns-then-at-log : goal.returns-then-at-log
-returns-then-at-log c = rw c.number.ensures (stopped (loop_leaves_bytes c.loop-i.invariant c.loop-i-test.false c.if-at-log.true))
+returns-then-at-log c = stopped (loop_leaves_bytes c.loop-i.invariant c.loop-i-test.false c.if-at-log.true)
 
 pub returns : goal.returns
 returns c = through (loop_ends c.loop-i.invariant c.loop-i-test.false c.if-at-log.false)
