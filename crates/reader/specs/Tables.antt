@@ -132,7 +132,7 @@ pub record AllKept (log : List ℕ) (count : ℕ) (t : Tables) : Type 0 where
   pub kept : Kept past t
   pub reads : scan log count header_length [] ≡ readable (reverse past)
 
--- They have all been read, or the scan ends with this refusal, at the record with this index.
+-- They have all been read, or the scan ends with this refusal, and with this index.
 pub data Passed (log : List ℕ) (count : ℕ) : Result (Unit {0}) (Refusal × ℕ) → Tables → Type 0 where
   through : {t : Tables} → AllKept log count t → Passed log count (Ok tt) t
   stopped : {refusal : Refusal} {index : ℕ} {t : Tables} → scan log count header_length [] ≡ refused refusal index → Passed log count (Err (refusal, index)) t

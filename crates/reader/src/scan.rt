@@ -165,8 +165,8 @@ impl Tables {
         Ok(())
     }
 
-    // Reads the records behind the header, `count` of them: all are fine, or one is refused, with its index. What is known of them is then kept in
-    // the tables.
+    // Reads the records behind the header, `count` of them, and the end of the log. What is wrong is answered with its index; else what is known of
+    // the records is kept in the tables.
     fn read_all(&mut self, log: &[u8], count: usize) -> Result<(), (Refusal, usize)>
         requires { (count ≤ max_records) × New self.old }
         ensures { Passed log.now count result self.new }
