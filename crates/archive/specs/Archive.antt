@@ -17,6 +17,7 @@ verdict_byte sheet = get_or sheet 1 0
 pub data Archive (log : List ℕ) : List ℕ → List ℕ → Type 0 where
   with_order : {buffer left : List ℕ} {k : ℕ} → Judges (read_log log) buffer (Order k) left → Archive log (take (sheet_bytes (Order k)) left) []
   with_pattern : {buffer left : List ℕ} {number k written : ℕ} → Judges (read_log log) buffer (Pattern number k) left → (out : List ℕ)
-      → excerpt_answer (read_log log) out ≡ Ok written → Archive log (take (sheet_bytes (Pattern number k)) left) (take written (excerpt_leaves (read_log log) out))
+      → excerpt_answer (read_log log) out ≡ Ok written
+      → Archive log (take (sheet_bytes (Pattern number k)) left) (take written (excerpt_leaves (read_log log) out))
   sheet_alone : {buffer left : List ℕ} {number k : ℕ} {records : List Record} → Judges (read_log log) buffer (Pattern number k) left
       → read_log log ≡ readable records → has_pending_remove records ≡ true → Archive log (take (sheet_bytes (Pattern number k)) left) []

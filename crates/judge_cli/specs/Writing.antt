@@ -1,5 +1,5 @@
 -- How the code writes a report from the judge's answer and sheet. What the program prints can be understood without this file.
-use Rattle.std.specs.Prelude.{ℕ, ◌+◌, ◌*◌, ◌≤◌, List, Result, Ok, Err, [], map, length}
+use Rattle.std.specs.Prelude.{ℕ, ◌+◌, ◌*◌, ◌≤◌, List, [], map, length}
 use Rattle.record.specs.declared.refusal.Refused.{Refused}
 use Rattle.text.specs.Text.{decimal, spaced}
 use Rattle.reader.specs.Log.{max_records, Reading, readable, refused, operations}

@@ -25,7 +25,6 @@ use Rattle.record.specs.Refusal.{max_refusal, told, refusing}
 use Rattle.record.specs.declared.refusal.Refusal.{Refusal}
 use Rattle.record.specs.declared.refusal.Refusal.TheVariants.{WrongSheet}
 use Rattle.record.specs.declared.refusal.Refused.{Refused}
-use Rattle.record.proofs.Refusals.{numbered}
 use Rattle.replay.specs.Replay.{replayed, ListsLinearization, ListsOther}
 
 -- what replay finds of a readable log and a sheet
